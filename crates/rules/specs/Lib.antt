@@ -1,0 +1,4 @@
+pub mod Settings
+pub mod Limits
+pub mod Range
+pub mod Step
