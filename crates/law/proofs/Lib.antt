@@ -1,0 +1,6 @@
+pub mod Sames
+pub mod Edits
+pub mod Views
+pub mod Cells
+pub mod Steps
+pub mod Law

@@ -1,0 +1,4 @@
+pub mod Histories
+pub mod OneByOne
+pub mod Promise
+pub mod Wrong
