@@ -11,12 +11,9 @@ use Rattle.store.specs.declared.version.Version.{Version}
 use Rattle.store.specs.declared.refusal.Refusal.{Refusal}
 use Rattle.store.specs.Meaning.{Writing, last}
 use Rattle.store.specs.Steps.{Answer, stage-answer, with-last, with-staged}
+pub use Rattle.rules.specs.House.{Rule}
 use Rattle.intake.specs.declared.bring.Outcome.{Outcome}
 use Rattle.intake.specs.declared.bring.Outcome.the-variants.{Published, Withdrawn}
-
--- the yes or no of a house rule to an entry, the last value of its chain and a new value
-abbrev pub Allowed : Type 0
-Allowed = ℕ → ℤ → ℤ → Bool
 
 -- a refusal to stage is passed up; what is staged is published on a yes and withdrawn on a no
 abbrev pub judged : Answer → Bool → Result Outcome Refusal
@@ -24,7 +21,7 @@ judged (Err refusal) says = Err refusal
 judged (Ok done) true = Ok Published
 judged (Ok done) false = Ok Withdrawn
 
-abbrev pub bring-answer : Writing → Allowed → ℕ → Version → Result Outcome Refusal
+abbrev pub bring-answer : Writing → Rule → ℕ → Version → Result Outcome Refusal
 bring-answer m allowed e v = judged (stage-answer m e v) (allowed e (last (m .reading .chains e) .value) (v .value))
 
 -- published: the chain of the entry has this version more, and nothing is staged there;
@@ -34,6 +31,6 @@ bring-after m e v (Ok Published) = record { reading = with-last (m .reading) e v
 bring-after m e v (Ok Withdrawn) = with-staged m e None
 bring-after m e v (Err refusal) = m
 
-pub record BringsIn (before : Writing) (allowed : Allowed) (e : ℕ) (v : Version) (r : Result Outcome Refusal) (after : Writing) : Type 0 where
+pub record BringsIn (before : Writing) (allowed : Rule) (e : ℕ) (v : Version) (r : Result Outcome Refusal) (after : Writing) : Type 0 where
   pub answer : r ≡ bring-answer before allowed e v
   pub leaves : after ≡ bring-after before e v r

@@ -20,7 +20,7 @@ pub record Line : Type 0 where
   pub call : Call
   pub answer : Answer
 
--- the history after one more call: the latest stands first
+-- calls with their answers, in the order in which they were made, after what came before; the latest stands first
 abbrev pub history : List Line → List Call → List Answer → List Line
 history past [] answers = past
 history past (c ∷ calls) [] = past
@@ -41,6 +41,7 @@ pub record Event : Type 0 where
   pub seat : ℕ
   pub deed : Deed
 
+-- all but a refusal
 abbrev pub accepted : Answer → Bool
 accepted (Serial n) = true
 accepted (Value v) = true
@@ -49,6 +50,7 @@ accepted (Decided d) = true
 accepted Done = true
 accepted (Refused f) = false
 
+-- what a decide said
 abbrev pub said : Answer → Decision
 said (Serial n) = D.Abort
 said (Value v) = D.Abort
@@ -57,6 +59,7 @@ said (Decided d) = d
 said Done = D.Abort
 said (Refused f) = D.Abort
 
+-- what is told of a call
 abbrev pub event : Call → Answer → Event
 event (Begin s) a = record { seat = s; deed = cond (accepted a) begins nothing }
 event (Read s e) a = record { seat = s; deed = cond (accepted a) (reads e) nothing }
@@ -75,6 +78,7 @@ told (x ∷ h) = event (x .call) (x .answer) ∷ told h
 
 -- ------------------------------------------------------------ kinds of deeds
 
+-- a begin; a decision; a decision to commit
 abbrev pub is-begin : Deed → Bool
 is-begin begins = true
 is-begin (reads e) = false
@@ -117,6 +121,7 @@ uses e (finishes x) = false
 uses e closes = false
 uses e nothing = false
 
+-- a finish of the entry
 abbrev pub ends : ℕ → Deed → Bool
 ends e begins = false
 ends e (reads x) = false
@@ -176,6 +181,7 @@ abbrev pub deeds : Edit → List Event → List Deed
 deeds d [] = []
 deeds d (x ∷ h) = cond (belongs d x h) (x .deed ∷ deeds d h) (deeds d h)
 
+-- some deed passes the test
 abbrev pub any : (Deed → Bool) → List Deed → Bool
 any f [] = false
 any f (x ∷ xs) = f x || any f xs

@@ -7,13 +7,10 @@ use lib.IntN.{ℤ}
 use Rattle.calls.specs.declared.call.Call.the-variants.{Read}
 use Rattle.calls.specs.declared.answer.Answer.the-variants.{Value}
 use Rattle.store.specs.declared.version.Version.{Version}
+pub use Rattle.rules.specs.House.{Rule}
 use Rattle.store.specs.Meaning.{last}
 use Rattle.law.specs.Histories.{Line, Event, Edit, accepted, told}
 use Rattle.law.specs.OneByOne.{Chains, decided, adds, chain, unfinished, answers, granted, released, count}
-
--- what a house rule says of an entry, a last value and a new value
-abbrev pub Rule : Type 0
-Rule = ℕ → ℤ → ℤ → Bool
 
 -- of each line in turn, where `past` is all that came before it: an accepted read answered as in the run
 abbrev pub Reads : Chains → List Event → List Line → Type 0

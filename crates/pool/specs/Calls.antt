@@ -23,6 +23,7 @@ use Rattle.store.specs.declared.refusal.Refusal.the-variants.{NoSuchEntry}
 use Rattle.store.specs.declared.version.Version.{Version}
 use Rattle.store.specs.Meaning.{Writing, last}
 use Rattle.store.specs.Steps.{stage-answer, stage-after, spend-answer, publish-after, withdraw-after}
+pub use Rattle.rules.specs.House.{Rule}
 use Rattle.pool.specs.declared.table.Row.{Row}
 use Rattle.pool.specs.Checks.{passed}
 use Rattle.pool.specs.Masks.{has}
@@ -30,10 +31,6 @@ use Rattle.pool.specs.Locks.{share, claim, release, holds, writes, with-vote}
 use Rattle.pool.specs.declared.scans.Question.the-variants.{VotedNo, VoteMissing, Held}
 use Rattle.pool.specs.Scans.{any-row, applies, withdrawn}
 use Rattle.pool.specs.Tables.{Moment, fresh, moment, place-at, row-at, with-row, with-place, with-state, with-store}
-
--- what a house rule says of an entry, a last value and a new value
-abbrev pub Rule : Type 0
-Rule = ℕ → ℤ → ℤ → Bool
 
 -- an accepted call: its answer, and what it leaves
 pub record Done (T : Type 0) : Type 0 where
@@ -43,10 +40,12 @@ pub record Done (T : Type 0) : Type 0 where
 abbrev pub done : {T : Type 0} → T → Moment → Done T
 done a s = record { answer = a; leaves = s }
 
+-- what comes next, unless this is refused
 abbrev pub then : {A B : Type 0} → Result A Fault → (A → Result B Fault) → Result B Fault
 then (Ok x) f = f x
 then (Err fault) f = Err fault
 
+-- the answer of a call, and what it leaves of the moment that it was made on
 abbrev pub answer : {T : Type 0} → Result (Done T) Fault → Result T Fault
 answer (Ok d) = Ok (d .answer)
 answer (Err fault) = Err fault
@@ -93,6 +92,7 @@ read s p e =
     then (share (row-at (s .table) e) p) (λ row.
     Ok (done (cond (writes row p) (staged-value s e) (last-value s e)) (with-row s e row))))
 
+-- a refusal of the store, as the pool passes it up
 abbrev pub up : Result (Unit {0}) Refusal → Result (Unit {0}) Fault
 up (Ok x) = Ok x
 up (Err refusal) = Err (Store refusal)
@@ -108,10 +108,11 @@ write s p e z =
     then (up (stage-answer (s .store) e (version-by s p z))) (λ _.
     Ok (done tt (with-store (with-row s e row) (stage-after (s .store) e (version-by s p z)))))))
 
+-- a read lock votes yes, and a write lock what the house rule says of the last value and the staged one
 abbrev pub says : Rule → Moment → ℕ → ℕ → Bool
 says allows s p e = cond (writes (row-at (s .table) e) p) (allows e (last-value s e) (staged-value s e)) true
 
--- a read lock votes yes, and a write lock what the house rule says
+-- one vote for each lock
 abbrev pub vote : Rule → Moment → ℕ → ℕ → Result (Done Bool) Fault
 vote allows s p e =
     then (passed (s .table) S.Vote p (inside s e)) (λ _.

@@ -1,3 +1,4 @@
+pub mod House
 pub mod Settings
 pub mod Limits
 pub mod Range
