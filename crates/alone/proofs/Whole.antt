@@ -51,7 +51,7 @@ withdrawn-reading m zero = refl
 withdrawn-reading m (suc n) = withdraw-reading (withdrawn m n) n ∙ withdrawn-reading m n
 
 module _ (allows : Rule) (before : Moment) (seats : ℕ) (few : before .store .reading .entries ≤ 64) where
-  abbrev Held : List Line → Moment → Type 0
+  abbrev pub Held : List Line → Moment → Type 0
   Held h s = Inv allows (chains before) (view s) h × Sized s
 
   -- what opening does where it is accepted, and where it is not
@@ -85,7 +85,7 @@ module _ (allows : Rule) (before : Moment) (seats : ℕ) (few : before .store .r
   step h s i (C.Finish p e) = finish-tied allows (chains before) s h (i .0) (i .1) p e
   step h s i (C.Close p) = close-tied allows (chains before) s h (i .0) (i .1) p
 
-  held : {h : List Line} {s : Moment} → Reached allows before seats h s → Held h s
+  pub held : {h : List Line} {s : Moment} → Reached allows before seats h s → Held h s
   held (opened q) = start (leb 1 seats && leb seats 16 && ltb 0 (before .store .reading .entries) && eqb (before .table .seats) 0) q
   held (called {h} {s} r c) = step h s (held r) c
 

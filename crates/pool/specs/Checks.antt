@@ -15,12 +15,16 @@ use Rattle.store.specs.declared.refusal.Refusal.the-variants.{NoSuchEntry}
 use Rattle.pool.specs.declared.table.Table.{Table}
 use Rattle.pool.specs.Tables.{place-at}
 
+-- the pool has the seat; the table has room for sixteen, whatever their number
+abbrev pub has-seat : Table → ℕ → Bool
+has-seat t p = ltb p (t .seats) && ltb p 16
+
 abbrev pub stepped : Option State → Result State Fault
 stepped None = Err WrongState
 stepped (Some q) = Ok q
 
 abbrev pub passed : Table → Step → ℕ → Bool → Result State Fault
 passed t step p is-entry =
-    cond (ltb p (t .seats) && ltb p 16)
+    cond (has-seat t p)
     (cond is-entry (stepped (next step (place-at t p .state))) (Err (Store NoSuchEntry)))
     (Err NoSuchSeat)

@@ -1,5 +1,11 @@
 ghost use mathlib.Core.Path.{_≡_};
-ghost use Rattle.pool.specs.Tables.{fresh};
+ghost use mathlib.Core.Bool.{true, false, _&&_};
+ghost use lib.Dec.{ltb};
+ghost use Rattle.std.specs.Options.{Cases as BySome};
+ghost use Rattle.pool.specs.Masks.{has};
+ghost use Rattle.pool.specs.Locks.{holds};
+ghost use Rattle.pool.specs.Checks.{has-seat};
+ghost use Rattle.pool.specs.Tables.{fresh, place-at, row-at};
 ghost use Rattle.pool.specs.Calls.{open-pool, begin, read, write, prepare, vote, decide, abort, finish, close, last-value, staged-value};
 ghost use Rattle.pool.specs.Pools.{at, Makes};
 use crate::checks::check;
@@ -72,6 +78,31 @@ impl<S: WritingStore, R: HouseRule> Pool<S, R> {
         ensures { λ r. ⌜ now r ≡ now (self .entry) .store ⌝ }
     {
         &self.store
+    }
+
+    // The state and the serial of a seat; none where there is no such seat.
+    pub fn place(&self, seat: usize) -> Option<Place>
+        ensures { λ r. ⌜ BySome r (has-seat (now (self .entry) .table) seat ≡ false) (λ x. (has-seat (now (self .entry) .table) seat ≡ true) × (x ≡ place-at (now (self .entry) .table) seat)) ⌝ }
+    {
+        // the table has room for sixteen seats, whatever their number
+        if seat >= self.table.seats || seat >= 16 {
+            return None;
+        }
+        Some(self.table.places[seat])
+    }
+
+    // Whether the seat holds the lock of the entry.
+    pub fn holds(&self, seat: usize, entry: usize) -> bool
+        ensures { λ r. ⌜ r ≡ (ltb seat 16 && ltb entry 64 && holds (row-at (now (self .entry) .table) entry) seat) ⌝ }
+    {
+        seat < 16 && entry < 64 && holds(self.table.rows[entry], seat)
+    }
+
+    // Whether the seat has voted on the entry.
+    pub fn has_voted(&self, seat: usize, entry: usize) -> bool
+        ensures { λ r. ⌜ r ≡ (ltb seat 16 && ltb entry 64 && has (row-at (now (self .entry) .table) entry .voted) seat) ⌝ }
+    {
+        seat < 16 && entry < 64 && has_seat(self.table.rows[entry].voted, seat)
     }
 
     // Withdraws all that is staged, keeps the chains and sets every seat idle with serial 0.
