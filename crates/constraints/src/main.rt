@@ -1,5 +1,8 @@
 // Reads proposed timing constraints, one to a line as ENTRY SEAT SERIAL VALUE, brings each into a table store under a house rule,
 // says what became of it, and shows every chain at the end. Values are in femtoseconds.
+#![tactic(auto)]
+
+use anyhow::anyhow;
 use intake::bring::Outcome;
 use intake::line::Proposal;
 use intake::reason::reason;
@@ -74,7 +77,7 @@ fn house_rule() -> anyhow::Result<RangeRule> {
 fn settled(answer: Result<(), Refusal>) -> anyhow::Result<()> {
     match answer {
         Ok(()) => Ok(()),
-        Err(refusal) => Err(reason(refusal).into()),
+        Err(refusal) => Err(anyhow!("{}", reason(refusal))),
     }
 }
 

@@ -1,4 +1,6 @@
 // The pool: seats that edit the entries of one store under strict two-phase locking with two-phase commit.
+#![tactic(auto)]
+
 mod checks;
 mod lock;
 pub mod pool;

@@ -1,4 +1,6 @@
 // What a store of constraint versions is: the version, the refusals, and the reading and the writing store by their meanings.
+#![tactic(auto)]
+
 pub mod latest;
 pub mod reading;
 pub mod refusal;

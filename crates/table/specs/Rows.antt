@@ -6,10 +6,10 @@ use Rattle.std.proofs.lemmas.Nat.{mul-le}
 use Rattle.std.proofs.lemmas.Option.{slice_get-get_or}
 use Rattle.std.proofs.lemmas.Bool.{lt-ltb, le-ltb, cond-true, cond-false, cases_lt, both_ways}
 use Rattle.store.specs.declared.version.Version.{Version}
-use Rattle.store.specs.Meaning.{opening}
+use Rattle.store.specs.Meaning.{opening, Readable, Writable}
 use Rattle.table.specs.declared.TableStore.{TableStore}
 use Rattle.table.specs.Table.{Table, len, chain, beside}
-use Rattle.table.specs.Stores.{table_of, memory}
+use Rattle.table.specs.Stores.{table_of, table_reading, table_writing, memory}
 
 -- n cells from the first of entry e on end before the first of entry m
 pub row_ends : (d e n m : ℕ) → e < m → n ≤ d → e * d + n ≤ m * d
@@ -78,3 +78,22 @@ module _ (s : TableStore) where
       ))
       (λ past. absurd (both_ways _ (ap is_some (beside_past t e past)) found))
       (cases_lt e s.entries)
+
+-- the laws of a reading store and of a writing store
+pub table_readable : (s : TableStore) → Readable (table_reading s)
+table_readable s = record {
+  entries_most = s.few;
+  depth_least = s.deep;
+  reach_least = omega arith;
+  reach_most = omega arith;
+  chain_least = λ e inside. omega (arith, chain_length s e inside, (s.rows e inside).0);
+  chain_most = λ e. ⊎_elim
+      (λ inside. omega (arith, chain_length s e inside, (s.rows e inside).1))
+      (λ past. omega (arith, ap length (chain_past (table_of s) e past)))
+      (cases_lt e s.entries);
+  chain_first = version_first s;
+  chain_none = chain_past (table_of s);
+}
+
+pub table_writable : (s : TableStore) → Writable (table_writing s)
+table_writable s = record { staged_room = beside_room s; staged_inside = beside_past (table_of s) }

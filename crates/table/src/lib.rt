@@ -1,4 +1,6 @@
 // The table store: a writing store over version cells in memory, in which version i of entry e is cell e × depth + i.
+#![tactic(auto)]
+
 ghost use Rattle.std.specs.Prelude.{ℕ, ◌*◌, ◌<◌, ◌≤◌, length};
 ghost use Rattle.table.specs.Table.{table, Row};
 

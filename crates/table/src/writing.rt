@@ -2,7 +2,7 @@ ghost use Rattle.std.specs.Prelude.{◌≡◌};
 ghost use Rattle.store.specs.Steps.{Stages, Publishes, Withdraws, is_author, within};
 ghost use Rattle.table.specs.Table.{publish_cells, reach};
 ghost use Rattle.table.specs.Stores.{table_of, table_staged, table_writing, memory};
-ghost use Rattle.table.specs.Rows.{beside_room, beside_past};
+ghost use Rattle.table.specs.Rows.{table_writable};
 
 use crate::{REACH, TableStore};
 use store::refusal::Refusal;
@@ -13,7 +13,7 @@ use store::writing::WritingStore;
 impl WritingStore for TableStore {
     ghost staged = { table_staged };
 
-    ghost writable = { λ s. record { staged_room = beside_room s; staged_inside = beside_past (table_of s) } };
+    ghost writable = { table_writable };
 
     fn staged_at(&self, entry: usize) -> Option<Version> {
         if entry < self.entries {

@@ -1,5 +1,7 @@
 // Edits that cannot be forgotten: moves slack between two entries of a pool, each move one edit under a ticket,
 // and prints what became of each, and then the chains. Values are in femtoseconds.
+#![tactic(auto)]
+
 mod moves;
 
 use anyhow::anyhow;

@@ -1,4 +1,6 @@
 // Tickets: an edit of a pool that cannot be forgotten. A program that lets a ticket go before its edit is settled or given up is refused.
+#![tactic(auto)]
+
 pub mod edit;
 pub mod fate;
 mod rest;

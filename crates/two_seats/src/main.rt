@@ -1,5 +1,7 @@
 // Two engineers and one constraint: runs the calls below on a pool over a table store, prints what each answered,
 // and then the chains that they left. Values are in femtoseconds.
+#![tactic(auto)]
+
 use alone::run::{Stop, run as run_calls};
 use anyhow::anyhow;
 use calls::answer::{Answer, Decision};

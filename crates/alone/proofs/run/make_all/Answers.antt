@@ -14,15 +14,15 @@ loop-call-preserved g c =
     let calls = c.args.calls.now in
     let i = c.loop-call.call-index in
     let inside : i < length calls = c.loop-call-test.true in (
-      omega (arith, inv.0, c.push-reserved.ensures.len),
-      omega (arith, inv.1, c.push-reserved.ensures.capacity),
+      omega (arith, inv.0, c.push_reserved.ensures.len),
+      omega (arith, inv.1, c.push_reserved.ensures.capacity),
       c.make.ensures.rule ∙ inv.2,
       goes_more (allowed c.args.pool.now.rule) (allowed c.loop-call.pool.rule) (ap allowed inv.2)
           (moment c.args.pool.now) (moment c.loop-call.pool) (moment c.make.new.pool)
-          (take i calls) (take (i + 1) calls) (vec_items c.loop-call.answers) (vec_items c.push-reserved.new.self) _ c.make.result
+          (take i calls) (take (i + 1) calls) (vec_items c.loop-call.answers) (vec_items c.push_reserved.new.self) _ c.make.result
           (omega (arith, length-take i calls, inv.0, c.loop-call.answers.ok.0))
           (take_more calls i _ inside)
-          c.push-reserved.ensures.items c.make.ensures.answers c.make.ensures.leaves inv.3,
+          c.push_reserved.ensures.items c.make.ensures.answers c.make.ensures.leaves inv.3,
     )
 
 pub returns : goal.returns

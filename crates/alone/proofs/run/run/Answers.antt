@@ -15,15 +15,15 @@ returns g c =
     let before : Moment = moment c.args.pool.now in
     let seats = c.args.seats in
     let calls = c.args.calls.now in
-    let answers = vec_items c.make-all.new.answers in
-    let accepted : answer (open_pool before seats) ≡ Ok tt = sym c.open.ensures.answers ∙ c.in-ok-open.was in
+    let answers = vec_items c.make_all.new.answers in
+    let accepted : answer (open_pool before seats) ≡ Ok tt = sym c.open.ensures.answers ∙ c.in_ok-open.was in
     let open_now : Reached allows before seats [] (moment c.open.new.self)
     = subst (λ (m : Moment). Reached allows before seats [] m) (sym c.open.ensures.leaves) (opened accepted) in
-    let goes : GoesOn allows (moment c.open.new.self) calls answers (moment c.make-all.new.pool)
-    = subst (λ (f : Rule). GoesOn f (moment c.open.new.self) calls answers (moment c.make-all.new.pool)) (ap allowed c.open.ensures.rule) c.make-all.ensures.goes_on in
-    let reached : Reached allows before seats (history [] calls answers) (moment c.make-all.new.pool) = goes before seats [] open_now in
+    let goes : GoesOn allows (moment c.open.new.self) calls answers (moment c.make_all.new.pool)
+    = subst (λ (f : Rule). GoesOn f (moment c.open.new.self) calls answers (moment c.make_all.new.pool)) (ap allowed c.open.ensures.rule) c.make_all.ensures.goes_on in
+    let reached : Reached allows before seats (history [] calls answers) (moment c.make_all.new.pool) = goes before seats [] open_now in
     record {
       alone = alone allows before seats (g.met.S.ReadingStore.readable c.args.pool.now.store).entries_most reached;
-      steps = record { each = c.make-all.ensures.each; reached = reached };
-      rule = c.make-all.ensures.rule ∙ c.open.ensures.rule;
+      steps = record { each = c.make_all.ensures.each; reached = reached };
+      rule = c.make_all.ensures.rule ∙ c.open.ensures.rule;
     }

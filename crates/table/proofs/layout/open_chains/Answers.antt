@@ -5,8 +5,8 @@ use Rattle.table.specs.Rows.{row_ends}
 use Rattle.table.proofs.Laid.{opened_length}
 use Rattle.table.proofs.layout.open_chains.Goals as goal
 
-pub index-mut-requires : goal.index-mut-requires
-index-mut-requires c =
+pub index_mut-requires : goal.index_mut-requires
+index_mut-requires c =
     let cells = vec_items c.args.cells.now in
     let e = c.loop-e.e in
     let d = c.args.depth in

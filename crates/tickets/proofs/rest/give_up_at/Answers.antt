@@ -15,11 +15,11 @@ returns g c =
     let s : Moment = moment c.args.pool.now in
     let p = c.args.seat in
     let serial = c.args.serial in
-    let fate : c.give-up-from.result ≡ give_up_fate allows s p serial = c.give-up-from.ensures.answers ∙ ap (given_up allows s p) c.state-of-state.ensures.is in
-    let leaves : moment c.give-up-from.new.pool ≡ after_calls allows s (give_up_calls s p serial)
-    = c.give-up-from.ensures.called.leaves ∙ ap (λ (q : State). after_calls allows s (giving_up s p q)) c.state-of-state.ensures.is in
+    let fate : c.give_up_from.result ≡ give_up_fate allows s p serial = c.give_up_from.ensures.answers ∙ ap (given_up allows s p) c.state_of-state.ensures.is in
+    let leaves : moment c.give_up_from.new.pool ≡ after_calls allows s (give_up_calls s p serial)
+    = c.give_up_from.ensures.called.leaves ∙ ap (λ (q : State). after_calls allows s (giving_up s p q)) c.state_of-state.ensures.is in
     record {
       answers = fate;
-      ended = give_up_ended allows s p serial (moment c.give-up-from.new.pool) c.give-up-from.result leaves fate;
-      rule = c.give-up-from.ensures.called.rule;
+      ended = give_up_ended allows s p serial (moment c.give_up_from.new.pool) c.give_up_from.result leaves fate;
+      rule = c.give_up_from.ensures.called.rule;
     }

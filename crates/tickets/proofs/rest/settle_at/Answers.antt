@@ -15,11 +15,11 @@ returns g c =
     let s : Moment = moment c.args.pool.now in
     let p = c.args.seat in
     let serial = c.args.serial in
-    let fate : c.settle-from.result ≡ settle_fate allows s p serial = c.settle-from.ensures.answers ∙ ap (settled allows s p) c.state-of-state.ensures.is in
-    let leaves : moment c.settle-from.new.pool ≡ after_calls allows s (settle_calls s p serial)
-    = c.settle-from.ensures.called.leaves ∙ ap (λ (q : State). after_calls allows s (settling s p q)) c.state-of-state.ensures.is in
+    let fate : c.settle_from.result ≡ settle_fate allows s p serial = c.settle_from.ensures.answers ∙ ap (settled allows s p) c.state_of-state.ensures.is in
+    let leaves : moment c.settle_from.new.pool ≡ after_calls allows s (settle_calls s p serial)
+    = c.settle_from.ensures.called.leaves ∙ ap (λ (q : State). after_calls allows s (settling s p q)) c.state_of-state.ensures.is in
     record {
       answers = fate;
-      ended = settle_ended allows s p serial (moment c.settle-from.new.pool) c.settle-from.result leaves fate;
-      rule = c.settle-from.ensures.called.rule;
+      ended = settle_ended allows s p serial (moment c.settle_from.new.pool) c.settle_from.result leaves fate;
+      rule = c.settle_from.ensures.called.rule;
     }

@@ -17,10 +17,10 @@ returns-in-Editing g c =
     let same = ap allowed c.make.ensures.rule in
     let is = sym c.in-Editing.is in
     record {
-      answers = c.conclude-all.ensures.answers ∙ prepare_fate allows (allowed prepared.rule) same s (moment prepared) p c.make.ensures.leaves ∙ ap (settled allows s p) is;
+      answers = c.conclude_all.ensures.answers ∙ prepare_fate allows (allowed prepared.rule) same s (moment prepared) p c.make.ensures.leaves ∙ ap (settled allows s p) is;
       called = record {
-        leaves = prepare_made allows (allowed prepared.rule) same s (moment prepared) (moment c.conclude-all.new.pool) p c.make.ensures.leaves c.conclude-all.ensures.called.leaves
+        leaves = prepare_made allows (allowed prepared.rule) same s (moment prepared) (moment c.conclude_all.new.pool) p c.make.ensures.leaves c.conclude_all.ensures.called.leaves
             ∙ ap (λ (q : State). after_calls allows s (settling s p q)) is;
-        rule = c.conclude-all.ensures.called.rule ∙ c.make.ensures.rule;
+        rule = c.conclude_all.ensures.called.rule ∙ c.make.ensures.rule;
       };
     }

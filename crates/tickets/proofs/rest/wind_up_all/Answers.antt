@@ -12,7 +12,7 @@ returns g c =
     let s = moment c.args.pool.now in
     let p = c.args.seat in
     record {
-      leaves = then_calls (allowed c.args.pool.now.rule) (allowed c.finish-all.new.pool.rule) (ap allowed c.finish-all.ensures.rule)
-          s (moment c.finish-all.new.pool) (moment c.make.new.pool) (finishes s p) (C.Close p ∷ []) c.finish-all.ensures.leaves c.make.ensures.leaves;
-      rule = c.make.ensures.rule ∙ c.finish-all.ensures.rule;
+      leaves = then_calls (allowed c.args.pool.now.rule) (allowed c.finish_all.new.pool.rule) (ap allowed c.finish_all.ensures.rule)
+          s (moment c.finish_all.new.pool) (moment c.make.new.pool) (finishes s p) (C.Close p ∷ []) c.finish_all.ensures.leaves c.make.ensures.leaves;
+      rule = c.make.ensures.rule ∙ c.finish_all.ensures.rule;
     }

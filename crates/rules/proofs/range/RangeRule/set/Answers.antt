@@ -3,5 +3,5 @@ use Rattle.rules.specs.Limits.{stands, zeros}
 use Rattle.rules.proofs.Everywhere.{everywhere_set}
 use Rattle.rules.proofs.range.RangeRule.set.Goals as goal
 
-pub invariant-of-self : goal.invariant-of-self
-invariant-of-self c = (everywhere_set (λ l. stands l ≡ true) zeros _ _ _ (sym c.if-not-stand.ensures) c.args.self.now.standing, tt)
+pub invariant_of-self : goal.invariant_of-self
+invariant_of-self c = record { standing = everywhere_set (λ l. stands l ≡ true) zeros _ _ _ (sym c.if-not-stand.ensures) c.args.self.now.standing }

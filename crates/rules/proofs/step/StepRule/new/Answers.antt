@@ -3,5 +3,5 @@ use Rattle.rules.specs.Step.{longest}
 use Rattle.rules.proofs.Everywhere.{everywhere_replicate}
 use Rattle.rules.proofs.step.StepRule.new.Goals as goal
 
-pub invariant-of-result : goal.invariant-of-result
-invariant-of-result c = (everywhere_replicate (λ s. s ≤ longest) 0 64 _ (omega arith) (omega arith), tt)
+pub invariant_of-result : goal.invariant_of-result
+invariant_of-result c = record { bounded = everywhere_replicate (λ s. s ≤ longest) 0 64 _ (omega arith) (omega arith) }

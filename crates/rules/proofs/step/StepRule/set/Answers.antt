@@ -3,5 +3,5 @@ use Rattle.rules.specs.Step.{longest}
 use Rattle.rules.proofs.Everywhere.{everywhere_set}
 use Rattle.rules.proofs.step.StepRule.set.Goals as goal
 
-pub invariant-of-self : goal.invariant-of-self
-invariant-of-self c = (everywhere_set (λ s. s ≤ longest) 0 _ _ _ (omega arith) c.args.self.now.bounded, tt)
+pub invariant_of-self : goal.invariant_of-self
+invariant_of-self c = record { bounded = everywhere_set (λ s. s ≤ longest) 0 _ _ _ (omega arith) c.args.self.now.bounded }

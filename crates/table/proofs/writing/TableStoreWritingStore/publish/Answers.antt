@@ -12,22 +12,22 @@ use Rattle.table.proofs.writing.TableStoreWritingStore.publish.Goals as goal
 short : (s : TableStore) (e : ℕ) (v : Version) → e < s.entries → Some v ≡ beside (table_of s) e → len (table_of s) e < s.depth
 short s e v inside found = omega (arith, chain_length s e inside, beside_room s e (ap is_some (sym found)))
 
-pub index-mut-requires : goal.index-mut-requires
-index-mut-requires c =
+pub index_mut-requires : goal.index_mut-requires
+index_mut-requires c =
     let s = c.args.self.now in
     let e = c.args.entry in
     let inside = c.if-entry-self.false in
     let room = short s e c.in-Some.version inside c.in-Some.ensures in
     omega (arith, row_ends s.depth e (len (table_of s) e + 1) s.entries inside (omega arith), s.room, s.cells.ok.0)
 
-pub invariant-of-self : goal.invariant-of-self
-invariant-of-self c =
+pub invariant_of-self : goal.invariant_of-self
+invariant_of-self c =
     let s = c.args.self.now in
     let e = c.args.entry in
     let v = c.in-Some.version in
     let inside = c.if-entry-self.false in
     let rows = grown_rows s e inside (search rules) v (short s e v inside c.in-Some.ensures) (search rules) in
-    (s.few, (s.deep, (s.shallow, (simp length-set s.room, (rows, tt)))))
+    record { few = s.few; deep = s.deep; shallow = s.shallow; room = simp length-set s.room; rows = rows }
 
 pub returns : goal.returns
 returns c =
