@@ -1,7 +1,6 @@
 -- A moment of a pool as a view of seats and entries, and what setting a place or a row does to it.
-use Rattle.std.proofs.Common.{◌≡◌, ℕ, zero, suc, ◌+◌, ◌<◌, ◌≤◌, Bool, true, false, cond, not, ◌&&◌, ◌||◌, eqb, ltb, ◌⊎◌, List, [], ◌∷◌, length, get_or, set, Some, None, Ok, Err, Option, Result, sym, refl, ap, ◌∙◌, subst, inl, inr, arith, length-set, get_or-set_other, get_or-set_same}
+use Rattle.std.proofs.Common.{◌≡◌, ℕ, ◌<◌, ◌≤◌, Bool, true, false, cond, ◌&&◌, eqb, ltb, ◌⊎◌, List, length, get_or, set, Some, None, Ok, Err, Option, sym, refl, ap, ◌∙◌, subst, inl, inr, arith, get_or-set_other, get_or-set_same}
 use Rattle.std.proofs.lemmas.Bool.{ltb-true, and_parts}
-use Rattle.calls.specs.declared.fault.Fault.{Fault}
 use Rattle.calls.specs.declared.fault.Fault.TheVariants.{NoSuchSeat, Store}
 use Rattle.store.specs.declared.refusal.Refusal.TheVariants.{NoSuchEntry}
 use Rattle.calls.specs.declared.state.State.{State}
@@ -9,11 +8,9 @@ use Rattle.calls.specs.declared.state.State.TheVariants.{Idle, Editing, Voting, 
 use Rattle.calls.specs.declared.state.Step.{Step}
 use Rattle.calls.specs.declared.state.Step.TheVariants as S
 use Rattle.calls.specs.States.{next}
-use Rattle.pool.specs.declared.table.Place.{Place}
-use Rattle.pool.specs.declared.table.Row.{Row}
 use Rattle.pool.specs.declared.table.Table.{Table}
 use Rattle.pool.specs.Masks.{has}
-use Rattle.pool.specs.Tables.{Moment, place_at, row_at, idle, unlocked}
+use Rattle.pool.specs.Tables.{Moment, place_at, row_at}
 use Rattle.pool.specs.Checks.{passed, stepped}
 use Rattle.pool.specs.Locks.{by_writer}
 use Rattle.law.specs.Histories.{same}

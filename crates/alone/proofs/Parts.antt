@@ -1,12 +1,10 @@
 -- What the parts of a call that were accepted say: a lock shared or claimed, a version staged, published or withdrawn, a row not found.
-use Rattle.std.proofs.Common.{◌≡◌, ℕ, zero, suc, ◌+◌, ◌<◌, ◌≤◌, Bool, true, false, cond, not, ◌&&◌, ◌||◌, eqb, ltb, ◌⊎◌, List, [], ◌∷◌, ◌++◌, length, get_or, set, ℤ, is_some, Some, None, Ok, Err, Option, Result, sym, refl, ap, ◌∙◌, subst, ap₂, inl, inr, arith}
-use Rattle.std.proofs.lemmas.Bool.{eqb-true, eq-eqb, and_parts}
-use Rattle.calls.specs.declared.fault.Fault.{Fault}
-use Rattle.calls.specs.declared.fault.Fault.TheVariants.{LockInTheWay, Store}
+use Rattle.std.proofs.Common.{◌≡◌, ℕ, zero, suc, ◌<◌, Bool, true, false, cond, not, ◌&&◌, ◌||◌, eqb, ltb, ◌⊎◌, List, [], ◌∷◌, ◌++◌, get_or, is_some, Some, None, Ok, Err, Option, sym, refl, ap, ◌∙◌, ap₂, inl, inr, arith}
+use Rattle.std.proofs.lemmas.Bool.{eqb-true, and_parts}
+use Rattle.calls.specs.declared.fault.Fault.TheVariants.{LockInTheWay}
 use Rattle.calls.specs.declared.state.State.{State}
 use Rattle.calls.specs.declared.state.State.TheVariants.{Idle, Editing, Voting, Commit, Abort}
 use Rattle.store.specs.declared.version.Version.{Version}
-use Rattle.store.specs.declared.refusal.Refusal.{Refusal}
 use Rattle.store.specs.declared.refusal.Refusal.TheVariants.{NoSuchEntry}
 use Rattle.store.specs.Meaning.{Writing, last}
 use Rattle.store.specs.Steps.{Answer, unless_refused, stage_answer, stage_after, with_staged, spend_answer, found, with_published, publish_after, withdraw_after}
@@ -16,10 +14,10 @@ use Rattle.pool.specs.Locks.{is_lock, by_writer, with_lock, share, claim, others
 use Rattle.pool.specs.Scans.{any_row}
 use Rattle.pool.specs.Calls.{or_else, up, spent}
 use Rattle.law.specs.Histories.{same}
-use Rattle.law.proofs.Sames.{same_refl, same_true, same_tells}
+use Rattle.law.proofs.Sames.{same_tells}
 use Rattle.law.proofs.Views.{writes, list, staged_or, is_ruled, is_committed}
 use Rattle.alone.proofs.Seats.{turned, seat_alone}
-use Rattle.alone.proofs.Moments.{no, writes_as}
+use Rattle.alone.proofs.Moments.{no}
 
 -- ------------------------------------------------------------ locks
 

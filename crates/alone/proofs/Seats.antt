@@ -1,8 +1,8 @@
 -- Masks of sixteen seats, read seat by seat.
-use Rattle.std.proofs.Common.{◌≡◌, ℕ, zero, suc, ◌+◌, ◌-◌, ◌*◌, ◌/◌, ◌%◌, ◌^◌, ◌<◌, ◌≤◌, Bool, true, false, cond, not, ◌&&◌, ◌||◌, eqb, ltb, sym, refl, ap, ◌∙◌, subst, ap₂, inl, inr, ⊎_elim, arith}
+use Rattle.std.proofs.Common.{◌≡◌, ℕ, zero, suc, ◌+◌, ◌-◌, ◌*◌, ◌/◌, ◌%◌, ◌^◌, ◌<◌, Bool, true, false, cond, not, ◌&&◌, eqb, sym, refl, ap, ◌∙◌, ap₂, ⊎_elim, arith}
 use lib.Bits.{bit_and, bit_or, and_high}
-use Rattle.std.proofs.lemmas.Nat.{pow_pos, pow-add, shr-shr, and_shr, or_shr, and_mod, or_mod, mod_below, div-add-mod', or_lt, pow_below, div_below}
-use Rattle.std.proofs.lemmas.Bool.{cases_eq, eq-eqb, ne_eqb, eqb-true, and_parts, not_from_true, not_from_false, cond-false, true≢false}
+use Rattle.std.proofs.lemmas.Nat.{pow_pos, pow-add, and_shr, or_shr, and_mod, or_mod, mod_below}
+use Rattle.std.proofs.lemmas.Bool.{cases_eq, eq-eqb, ne_eqb, eqb-true, and_parts, cond-false, true≢false}
 use Rattle.pool.specs.Masks.{has, with_seat, without_seat, has_other}
 use Rattle.law.specs.Histories.{same}
 

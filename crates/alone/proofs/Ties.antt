@@ -1,34 +1,30 @@
 -- Each call of a pool, refused or accepted, keeps the invariant of its history.
-use Rattle.std.proofs.Common.{◌≡◌, ℕ, zero, suc, ◌+◌, ◌<◌, ◌≤◌, Bool, true, false, cond, not, ◌&&◌, ◌||◌, eqb, ltb, ◌⊎◌, List, [], ◌∷◌, ◌++◌, length, get_or, set, ℤ, is_some, Some, None, Ok, Err, Option, Result, sym, refl, ap, ◌∙◌, subst, ap₂, inl, inr, arith, length-set}
-use Rattle.std.proofs.lemmas.Bool.{ltb-true, and_parts}
+use Rattle.std.proofs.Common.{◌≡◌, ℕ, ◌+◌, ◌<◌, ◌≤◌, Bool, true, false, cond, not, ◌&&◌, ◌||◌, ltb, ◌⊎◌, List, ◌∷◌, ℤ, Some, None, Ok, Err, Result, sym, refl, ap, ◌∙◌, subst, ap₂, inl, inr, arith, length-set}
+use Rattle.std.proofs.lemmas.Bool.{ltb-true}
 use Rattle.calls.specs.declared.fault.Fault.{Fault}
-use Rattle.calls.specs.declared.fault.Fault.TheVariants.{SerialsUsedUp, LockInTheWay, NoLock, VotedAlready, VotesMissing, LocksRemain}
+use Rattle.calls.specs.declared.fault.Fault.TheVariants.{SerialsUsedUp, NoLock, VotedAlready, VotesMissing, LocksRemain}
 use Rattle.calls.specs.declared.call.Call.{Call}
 use Rattle.calls.specs.declared.call.Call.TheVariants as C
 use Rattle.calls.specs.declared.answer.Answer.{Answer}
 use Rattle.calls.specs.declared.answer.Answer.TheVariants as A
-use Rattle.calls.specs.declared.answer.Decision.TheVariants as D
 use Rattle.calls.specs.declared.state.State.{State}
-use Rattle.calls.specs.declared.state.State.TheVariants.{Idle, Editing, Voting, Commit, Abort}
-use Rattle.calls.specs.declared.state.Step.{Step}
+use Rattle.calls.specs.declared.state.State.TheVariants.{Abort}
 use Rattle.calls.specs.declared.state.Step.TheVariants as S
-use Rattle.store.specs.declared.version.Version.{Version}
-use Rattle.store.specs.declared.refusal.Refusal.{Refusal}
-use Rattle.store.specs.Meaning.{Writing, last}
+use Rattle.store.specs.Meaning.{Writing}
 use Rattle.store.specs.Steps.{stage_answer, stage_after, with_staged, spend_answer}
 use Rattle.pool.specs.declared.table.Place.{Place}
 use Rattle.pool.specs.declared.table.Row.{Row}
-use Rattle.pool.specs.Masks.{has, with_seat, without_seat, has_other}
+use Rattle.pool.specs.Masks.{has, with_seat, without_seat}
 use Rattle.pool.specs.Tables.{Moment, place_at, row_at, idle, unlocked, with_place, with_row, with_state, with_store}
 use Rattle.pool.specs.Checks.{passed}
 use Rattle.pool.specs.Locks as L
 use Rattle.pool.specs.declared.scans.Question.TheVariants.{VotedNo, VoteMissing, Held}
 use Rattle.pool.specs.Scans.{any_row, applies}
-use Rattle.pool.specs.Calls.{Rule, Done, done, then, answer, after, inside, begin, read, write, prepare, vote, decide, abort, finish, close, last_value, staged_value, or_else, says, up, spent, version_by}
+use Rattle.pool.specs.Calls.{Rule, Done, done, then, after, inside, begin, read, write, prepare, vote, decide, abort, finish, close, last_value, says, up, spent, version_by}
 use Rattle.law.specs.Histories.{Line, same}
 use Rattle.law.specs.OneByOne.{Chains}
-use Rattle.law.proofs.Sames.{same_refl, same_true, same_tells, at}
-use Rattle.law.proofs.Views.{View, Inv, writes, holds, list, staged_or, is_ruled, is_committed}
+use Rattle.law.proofs.Sames.{same_refl, same_tells, at}
+use Rattle.law.proofs.Views.{Inv, writes, holds, is_ruled}
 use Rattle.law.proofs.Steps.{refused_step, begin_step, read_step, write_step, prepare_step, vote_step, commit_step, decide_abort_step, abort_step, finish_step, close_step, with_phase, begun_view, read_view, written_view, voted_view, finished_view}
 use Rattle.law.proofs.Law.{Alike, alike}
 use Rattle.alone.specs.Runs.{named}

@@ -1,21 +1,21 @@
 -- Every pool that was opened and then called keeps the promise.
-use Rattle.std.proofs.Common.{◌≡◌, ℕ, zero, suc, ◌+◌, ◌<◌, ◌≤◌, Bool, true, false, cond, ◌&&◌, ◌||◌, eqb, ltb, leb, List, [], ◌∷◌, ◌++◌, length, get_or, replicate, None, Ok, Err, Result, sym, refl, ap, ◌∙◌, subst, ap₂, arith}
+use Rattle.std.proofs.Common.{◌≡◌, ℕ, zero, suc, ◌+◌, ◌≤◌, Bool, true, false, cond, ◌&&◌, ◌||◌, eqb, ltb, leb, List, [], ◌∷◌, ◌++◌, length, get_or, replicate, None, Ok, Err, Result, sym, refl, ap, ◌∙◌, subst, ap₂, arith}
 use Rattle.calls.specs.declared.fault.Fault.{Fault}
 use Rattle.calls.specs.declared.fault.Fault.TheVariants.{CannotOpen}
 use Rattle.calls.specs.declared.call.Call.{Call}
 use Rattle.calls.specs.declared.call.Call.TheVariants as C
 use Rattle.calls.specs.declared.answer.Answer.{Answer}
-use Rattle.store.specs.Meaning.{Reading, Writing, Readable}
+use Rattle.store.specs.Meaning.{Reading, Writing}
 use Rattle.store.specs.Steps.{unless_refused, spend_answer, with_staged, withdraw_after}
 use Rattle.store.specs.Steps as T
 use Rattle.pool.specs.declared.table.Place.{Place}
 use Rattle.pool.specs.declared.table.Row.{Row}
 use Rattle.pool.specs.Masks.{has}
-use Rattle.pool.specs.Tables.{Moment, moment, fresh, idle, unlocked, place_at, row_at}
+use Rattle.pool.specs.Tables.{Moment, moment, fresh, idle, unlocked, row_at}
 use Rattle.pool.specs.Scans.{withdrawn}
-use Rattle.pool.specs.Calls.{Rule, Done, done, answer, after, open_pool}
+use Rattle.pool.specs.Calls.{Rule, Done, done, answer, after}
 use Rattle.law.specs.Histories.{Line, told, history}
-use Rattle.law.specs.OneByOne.{Chains, count, released}
+use Rattle.law.specs.OneByOne.{released}
 use Rattle.law.specs.Promise.{AsIfAlone}
 use Rattle.law.proofs.Sames.{count_ext}
 use Rattle.law.proofs.Views.{Inv, holds}

@@ -1,5 +1,5 @@
 -- What bringing a version in answers, and what the store means after it.
-use Rattle.std.specs.Prelude.{◌≡◌, ℕ, Bool, true, false, cond, eqb, ℤ, None, Ok, Err, Result}
+use Rattle.std.specs.Prelude.{◌≡◌, ℕ, Bool, true, false, None, Ok, Err, Result}
 use Rattle.store.specs.declared.version.Version.{Version}
 use Rattle.store.specs.declared.refusal.Refusal.{Refusal}
 use Rattle.store.specs.Meaning.{Writing, last}

@@ -1,15 +1,15 @@
 -- What each call does to one seat at one entry: to its own, and to another seat's.
-use Rattle.std.proofs.Common.{◌≡◌, ℕ, ◌+◌, ◌<◌, Bool, true, false, cond, not, ◌&&◌, ◌||◌, ◌⊎◌, List, [], ◌∷◌, ◌++◌, ℤ, is_some, Some, None, Option, sym, refl, ap, ◌∙◌, subst, inl, inr, append_assoc, append-nil, arith}
+use Rattle.std.proofs.Common.{◌≡◌, ℕ, ◌+◌, Bool, true, false, cond, not, ◌&&◌, ◌||◌, ◌⊎◌, List, [], ◌++◌, ℤ, is_some, Some, None, Option, refl, inl, inr, append_assoc, append-nil, arith}
 use Rattle.calls.specs.declared.state.State.{State}
 use Rattle.calls.specs.declared.state.State.TheVariants.{Idle, Editing, Voting, Commit, Abort}
 use Rattle.store.specs.declared.version.Version.{Version}
 use Rattle.store.specs.Meaning.{last}
-use Rattle.law.specs.Histories.{Edit, same}
+use Rattle.law.specs.Histories.{same}
 use Rattle.law.specs.OneByOne.{by, or_last}
 use Rattle.law.specs.Promise.{Rule}
 use Rattle.law.proofs.Sames.{same_refl, same_tells}
 use Rattle.law.proofs.Edits.{without}
-use Rattle.law.proofs.Views.{Cell, writes, list, staged_or, is_live, is_ruled, is_committed, is_editing}
+use Rattle.law.proofs.Views.{Cell, writes, list, staged_or, is_ruled, is_committed}
 
 module _ {allows : Rule} {s e : ℕ} {ph : State} {sn : ℕ} {w : Option ℕ} {r vo ag : Bool} {st : Option Version} {ch : List Version}
     {n : ℕ} {u dc cm tc : Bool} {ow : Option ℤ} {dn : Bool} {un ob : List Version}

@@ -1,10 +1,8 @@
 -- What one more call changes of the edits and of the one-by-one run.
-use Rattle.std.proofs.Common.{◌≡◌, ℕ, ◌+◌, ◌<◌, ◌≤◌, Bool, true, false, cond, not, ◌&&◌, ◌||◌, ◌⊎◌, List, [], ◌∷◌, ◌++◌, ℤ, Some, None, Option, sym, refl, ap, ◌∙◌, subst, ap₂, inl, inr, append_assoc, append-nil, arith}
+use Rattle.std.proofs.Common.{◌≡◌, ℕ, ◌<◌, ◌≤◌, Bool, true, false, cond, ◌&&◌, ◌||◌, ◌⊎◌, List, [], ◌∷◌, ◌++◌, ℤ, Some, None, Option, sym, refl, ap, ◌∙◌, subst, ap₂, inl, inr, append-nil, arith}
 use Rattle.std.proofs.lemmas.Bool.{cases_Bool}
-use Rattle.calls.specs.declared.answer.Decision.{Decision}
 use Rattle.store.specs.declared.version.Version.{Version}
-use Rattle.store.specs.Meaning.{last}
-use Rattle.law.specs.Histories.{Event, Edit, Deed, begins, reads, writes, decides, finishes, closes, nothing, same, is_begin, is_decision, lasting, begun, under_way, latest_edit, belongs, deeds, used, uses, finished, ends, committed, latest}
+use Rattle.law.specs.Histories.{Event, Edit, Deed, begins, reads, writes, decides, finishes, closes, nothing, same, is_begin, is_decision, lasting, begun, under_way, latest_edit, belongs, deeds, used, finished, ends, committed, latest}
 use Rattle.law.specs.OneByOne.{Chains, decided, by, adds, chain, unfinished, is, among, earlier}
 use Rattle.law.specs.Promise.{Rule, Allowed}
 use Rattle.law.proofs.Sames.{same_refl, same_true, same_tells}

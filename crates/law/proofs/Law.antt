@@ -1,11 +1,11 @@
 -- From an opened pool the invariant holds, and it gives the promise.
-use Rattle.std.proofs.Common.{◌≡◌, ℕ, ◌+◌, ◌<◌, Bool, true, false, ◌||◌, List, [], ◌∷◌, None, sym, refl, ap, ◌∙◌, append-nil, arith}
+use Rattle.std.proofs.Common.{◌≡◌, ℕ, ◌+◌, ◌<◌, false, List, [], ◌∷◌, None, sym, refl, ap, ◌∙◌, append-nil, arith}
 use Rattle.calls.specs.declared.state.State.TheVariants.{Idle}
 use Rattle.law.specs.Histories.{Line, Event, told}
 use Rattle.law.specs.OneByOne.{Chains, released, count}
 use Rattle.law.specs.Promise.{Rule, Reads, AsIfAlone}
 use Rattle.law.proofs.Sames.{count_ext, count_none}
-use Rattle.law.proofs.Views.{View, Kept, InvOf, Inv, holds}
+use Rattle.law.proofs.Views.{View, Kept, Inv, holds}
 
 -- views that agree at each seat below 16 and each entry
 pub record Alike (w v : View) : Type 0 where

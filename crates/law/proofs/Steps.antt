@@ -1,5 +1,5 @@
 -- Each accepted call, as what it does to a view, keeps the invariant.
-use Rattle.std.proofs.Common.{◌≡◌, ℕ, ◌+◌, ◌<◌, Bool, true, false, cond, not, ◌&&◌, ◌||◌, ◌⊎◌, List, [], ◌∷◌, ◌++◌, ℤ, is_some, Some, None, Option, sym, refl, ap, ◌∙◌, subst, ap₂, inl, inr, append_assoc, append-nil, arith}
+use Rattle.std.proofs.Common.{◌≡◌, ℕ, ◌+◌, ◌<◌, Bool, true, false, cond, not, ◌&&◌, ◌⊎◌, List, [], ◌∷◌, ◌++◌, ℤ, is_some, Some, None, Option, sym, refl, ap, ◌∙◌, subst, ap₂, inl, inr, append-nil, arith}
 use Rattle.std.proofs.lemmas.Bool.{cases_Bool}
 use Rattle.calls.specs.declared.state.State.{State}
 use Rattle.calls.specs.declared.state.State.TheVariants.{Idle, Editing, Voting, Commit, Abort}
@@ -12,11 +12,11 @@ use Rattle.calls.specs.declared.answer.Decision.TheVariants as D
 use Rattle.store.specs.declared.version.Version.{Version}
 use Rattle.store.specs.Meaning.{last}
 use Rattle.law.specs.Histories.{Line, Event, Edit, Deed, begins, reads, writes as writing, decides, finishes, closes, nothing, accepted, event, told, same, is_begin, is_decision, is_commit, lasting, begun, under_way, latest_edit, belongs, deeds, used, uses, finished, committed, latest}
-use Rattle.law.specs.OneByOne.{Chains, decided, by, adds, chain, unfinished, is, among, earlier, or_last, answers, granted, released, count}
-use Rattle.law.specs.Promise.{Rule, Allowed}
-use Rattle.law.proofs.Sames.{same_refl, same_true, same_tells, at, count_ext, count_one}
-use Rattle.law.proofs.Edits.{begun_more, deeds_ahead, loud, stays, Stands, is_refl, adds_kept, chain_kept, unfinished_kept, unfinished_done, allowed_kept, value_kept, stands_kept, without, earlier_all}
-use Rattle.law.proofs.Views.{View, Cell, Seen, At, Kept, InvOf, Inv, writes, holds, list, staged_or, is_live, is_editing, is_ruled, is_committed}
+use Rattle.law.specs.OneByOne.{Chains, decided, by, adds, chain, unfinished, is, among, or_last, answers, granted, released, count}
+use Rattle.law.specs.Promise.{Rule}
+use Rattle.law.proofs.Sames.{same_refl, same_tells, at, count_ext, count_one}
+use Rattle.law.proofs.Edits.{begun_more, deeds_ahead, loud, stays, Stands, is_refl, chain_kept, unfinished_kept, unfinished_done, allowed_kept, value_kept, stands_kept, earlier_all}
+use Rattle.law.proofs.Views.{View, Seen, At, Kept, InvOf, Inv, writes, holds, list, staged_or, is_live, is_ruled, is_committed}
 use Rattle.law.proofs.Cells.{begin_own, read_own, read_answer, write_own, write_other, prepare_own, vote_own, commit_own, abort_own, commit_other, finish_own, finish_none, finish_joined, finish_writer, finish_unwritten, finish_free, finish_others, finish_other, close_own, write_empty, adds_own, used_apart, allowed_own, grant_sum}
 
 -- ------------------------------------------------------------ what a call may do to the reads before it

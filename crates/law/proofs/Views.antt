@@ -6,7 +6,7 @@ use Rattle.calls.specs.declared.call.Call.TheVariants.{Read}
 use Rattle.calls.specs.declared.answer.Answer.TheVariants.{Value}
 use Rattle.store.specs.declared.version.Version.{Version}
 use Rattle.store.specs.Meaning.{last}
-use Rattle.law.specs.Histories.{Line, Event, Edit, Deed, accepted, told, same, begun, under_way, latest_edit, deeds, used, finished, committed, latest}
+use Rattle.law.specs.Histories.{Line, Event, Deed, accepted, told, same, begun, under_way, latest_edit, deeds, used, finished, committed, latest}
 use Rattle.law.specs.OneByOne.{Chains, decided, by, chain, unfinished, among, answers, granted, released, count}
 use Rattle.law.specs.Promise.{Rule, Allowed}
 use Rattle.law.proofs.Edits.{Stands}

@@ -1,8 +1,8 @@
 -- The run that takes the decided edits one by one, in the order in which they were decided.
-use Rattle.std.specs.Prelude.{ℕ, zero, suc, ◌+◌, Bool, true, false, cond, not, ◌&&◌, ◌||◌, List, [], ◌∷◌, ◌++◌, ℤ, Some, None, Option}
+use Rattle.std.specs.Prelude.{ℕ, zero, suc, ◌+◌, Bool, false, cond, not, ◌&&◌, ◌||◌, List, [], ◌∷◌, ◌++◌, ℤ, Some, None, Option}
 use Rattle.store.specs.declared.version.Version.{Version}
 use Rattle.store.specs.Meaning.{last}
-use Rattle.law.specs.Histories.{Event, Edit, Deed, same, is_decision, begun, latest_edit, deeds, used, finished, committed, latest, uses, ends}
+use Rattle.law.specs.Histories.{Event, Edit, same, is_decision, latest_edit, deeds, used, finished, committed, latest, uses, ends}
 
 -- the chain of each entry
 abbrev pub Chains : Type 0

@@ -1,5 +1,5 @@
 -- "Every edit as if made alone": what is promised of every history of a pool.
-use Rattle.std.specs.Prelude.{◌≡◌, ℕ, ◌+◌, Bool, true, List, [], ◌∷◌, ◌++◌, ℤ}
+use Rattle.std.specs.Prelude.{◌≡◌, ℕ, ◌+◌, Bool, true, List, [], ◌∷◌, ◌++◌}
 use Rattle.calls.specs.declared.call.Call.TheVariants.{Read}
 use Rattle.calls.specs.declared.answer.Answer.TheVariants.{Value}
 use Rattle.store.specs.declared.version.Version.{Version}

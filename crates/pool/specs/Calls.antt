@@ -1,21 +1,17 @@
 -- What each call on a pool answers and leaves. A call that is refused leaves everything as it was.
-use Rattle.std.specs.Prelude.{◌≡◌, ℕ, zero, suc, ◌+◌, Bool, true, false, cond, not, ◌&&◌, ◌||◌, List, [], ◌∷◌, ℤ, Some, None, Ok, Err, Option, Result, ◌==◌, nat_le, nat_lt}
+use Rattle.std.specs.Prelude.{ℕ, ◌+◌, Bool, true, cond, ◌&&◌, ℤ, Some, None, Ok, Err, Option, Result, ◌==◌, nat_le, nat_lt}
 use Rattle.calls.specs.declared.answer.Decision.{Decision}
 use Rattle.calls.specs.declared.answer.Decision.TheVariants as D
 use Rattle.calls.specs.declared.fault.Fault.{Fault}
-use Rattle.calls.specs.declared.fault.Fault.TheVariants.{NoSuchSeat, WrongState, SerialsUsedUp, NoLock, VotedAlready, VotesMissing, LocksRemain, CannotOpen, Store}
+use Rattle.calls.specs.declared.fault.Fault.TheVariants.{SerialsUsedUp, NoLock, VotedAlready, VotesMissing, LocksRemain, CannotOpen, Store}
 use Rattle.calls.specs.declared.state.State.{State}
 use Rattle.calls.specs.declared.state.State.TheVariants.{Idle, Editing, Voting, Commit, Abort}
-use Rattle.calls.specs.declared.state.Step.{Step}
 use Rattle.calls.specs.declared.state.Step.TheVariants as S
-use Rattle.calls.specs.States.{next}
 use Rattle.store.specs.declared.refusal.Refusal.{Refusal}
-use Rattle.store.specs.declared.refusal.Refusal.TheVariants.{NoSuchEntry}
 use Rattle.store.specs.declared.version.Version.{Version}
 use Rattle.store.specs.Meaning.{Writing, last}
 use Rattle.store.specs.Steps.{stage_answer, stage_after, spend_answer, publish_after, withdraw_after}
 pub use Rattle.rules.specs.House.{Rule}
-use Rattle.pool.specs.declared.table.Row.{Row}
 use Rattle.pool.specs.Checks.{passed}
 use Rattle.pool.specs.Masks.{has}
 use Rattle.pool.specs.Locks.{share, claim, release, holds, writes, with_vote}

@@ -1,9 +1,8 @@
 -- The inner table of a pool, and the pool with its store at one moment.
-use Rattle.std.specs.Prelude.{◌≡◌, ℕ, List, replicate, None, Option, slice_index_or, slice_set}
+use Rattle.std.specs.Prelude.{ℕ, replicate, None, slice_index_or, slice_set}
 use Rattle.calls.specs.declared.state.State.{State}
 use Rattle.calls.specs.declared.state.State.TheVariants.{Idle}
-use Rattle.store.specs.declared.version.Version.{Version}
-use Rattle.store.specs.Meaning.{Reading, Writing, writing}
+use Rattle.store.specs.Meaning.{Writing}
 use Rattle.pool.specs.declared.table.Place.{Place}
 use Rattle.pool.specs.declared.table.Row.{Row}
 use Rattle.pool.specs.declared.table.Table.{Table}

@@ -1,5 +1,5 @@
 -- A rule by limits, one pair of them for each entry.
-use Rattle.std.specs.Prelude.{◌≡◌, ℕ, Bool, ◌&&◌, List, set, ℤ, nat_lt, slice_index_or, slice_set}
+use Rattle.std.specs.Prelude.{◌≡◌, ℕ, Bool, ◌&&◌, List, ℤ, nat_lt, slice_index_or, slice_set}
 use Rattle.store.specs.Steps.{Answer, unless_refused}
 use Rattle.rules.specs.declared.limits.Limits.{Limits}
 use Rattle.rules.specs.Limits.{zeros, stands, between}

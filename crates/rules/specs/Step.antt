@@ -1,5 +1,5 @@
 -- A rule by steps, one for each entry.
-use Rattle.std.specs.Prelude.{◌≡◌, ℕ, Bool, ◌&&◌, List, set, ℤ, ◌-ℤ◌, nat_le, nat_lt, slice_index, slice_set, unsigned_abs}
+use Rattle.std.specs.Prelude.{◌≡◌, ℕ, Bool, ◌&&◌, List, ℤ, ◌-ℤ◌, nat_le, nat_lt, slice_index, slice_set, unsigned_abs}
 use Rattle.store.specs.Steps.{Answer, unless_refused}
 use Rattle.rules.specs.Settings.{set_answer}
 

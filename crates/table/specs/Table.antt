@@ -1,5 +1,5 @@
 -- What a table of version cells means: version i of entry e is cell e × depth + i.
-use Rattle.std.specs.Prelude.{◌≡◌, ℕ, ◌+◌, ◌*◌, ◌<◌, ◌≤◌, true, cond, List, [], length, take, drop, is_some, Some, None, Option, nat_lt, slice_index, slice_index_or, slice_set}
+use Rattle.std.specs.Prelude.{◌≡◌, ℕ, ◌+◌, ◌*◌, ◌<◌, ◌≤◌, true, cond, List, [], take, drop, is_some, Some, None, Option, nat_lt, slice_index, slice_index_or, slice_set}
 use Rattle.store.specs.declared.version.Version.{Version}
 use Rattle.store.specs.Meaning.{Reading, Writing, opening}
 

@@ -60,8 +60,8 @@ fn show(rt: &HostRuntime) -> anyhow::Result<()> {
     Ok(())
 }
 
-fn tell(rt: &HostRuntime, res: Result<Fate, Fault>) -> io::Result<()> {
-    match res {
+fn tell(rt: &HostRuntime, moved: Result<Fate, Fault>) -> io::Result<()> {
+    match moved {
         Ok(Fate::Commit) => println!(rt; "commit"),
         Ok(Fate::Abort) => println!(rt; "abort"),
         Ok(Fate::Gone) => println!(rt; "gone"),

@@ -25,7 +25,7 @@ use Rattle.pool.specs.Checks.{passed, has_seat}
 use Rattle.pool.specs.Scans.{any_row, applies, withdrawn}
 use Rattle.pool.specs.Tables.{Moment, moment, fresh, place_at, row_at, idle, unlocked, with_state}
 use Rattle.pool.specs.Calls.{Rule, Done, done, then, answer, after, inside, up, version_by, says}
-use Rattle.law.specs.Histories.{Line, same}
+use Rattle.law.specs.Histories.{Line}
 use Rattle.law.specs.OneByOne.{by}
 use Rattle.law.proofs.Sames.{same_refl}
 use Rattle.law.proofs.Views.{is_ruled, list}

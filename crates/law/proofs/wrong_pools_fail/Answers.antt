@@ -1,5 +1,4 @@
-use Rattle.std.proofs.Common.{◌≡◌, ℕ, true, false, List, [], ◌∷◌, length, pos, negsuc, sym, refl, ap, ◌∙◌, arith}
-use Rattle.calls.specs.declared.answer.Answer.{Answer}
+use Rattle.std.proofs.Common.{◌≡◌, ℕ, true, false, List, length, pos, negsuc, refl, ap, arith}
 use Rattle.calls.specs.declared.answer.Answer.TheVariants.{Value}
 use Rattle.store.specs.declared.version.Version.{Version}
 use Rattle.law.specs.Histories.{same}

@@ -1,4 +1,4 @@
-use Rattle.std.proofs.Common.{◌≡◌, Some, None, sym, ap, ◌∙◌, arith}
+use Rattle.std.proofs.Common.{Some, None, sym, ap, ◌∙◌, arith}
 use Rattle.std.proofs.lemmas.Str.Pattern.{split_parts}
 use Rattle.intake.specs.Line.{first_word, past_word}
 use Rattle.intake.proofs.Texts.{first_word_cut, past_word_cut, first_word_whole, past_word_whole}

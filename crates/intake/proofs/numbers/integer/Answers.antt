@@ -1,4 +1,4 @@
-use Rattle.std.proofs.Common.{◌≡◌, false, eqb, get_or, arith, rules}
+use Rattle.std.proofs.Common.{get_or, arith, rules}
 use Rattle.std.proofs.lemmas.Bool.{ne_eqb}
 use Rattle.intake.proofs.Texts.{first_not}
 use Rattle.intake.proofs.numbers.integer.Goals as goal
