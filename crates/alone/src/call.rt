@@ -11,46 +11,46 @@ use rules::house::HouseRule;
 use store::reading::ReadingStore;
 use store::writing::WritingStore;
 
-fn serial(res: Result<u32, Fault>) -> Answer
-    ensures { result ≡ told Serial res }
+fn serial(outcome: Result<u32, Fault>) -> Answer
+    ensures { result ≡ told Serial outcome }
 {
-    match res {
+    match outcome {
         Ok(serial) => Answer::Serial(serial),
         Err(fault) => Answer::Refused(fault),
     }
 }
 
-fn value(res: Result<i64, Fault>) -> Answer
-    ensures { result ≡ told Value res }
+fn value(outcome: Result<i64, Fault>) -> Answer
+    ensures { result ≡ told Value outcome }
 {
-    match res {
+    match outcome {
         Ok(value) => Answer::Value(value),
         Err(fault) => Answer::Refused(fault),
     }
 }
 
-fn voted(res: Result<bool, Fault>) -> Answer
-    ensures { result ≡ told Voted res }
+fn voted(outcome: Result<bool, Fault>) -> Answer
+    ensures { result ≡ told Voted outcome }
 {
-    match res {
+    match outcome {
         Ok(yes) => Answer::Voted(yes),
         Err(fault) => Answer::Refused(fault),
     }
 }
 
-fn decided(res: Result<Decision, Fault>) -> Answer
-    ensures { result ≡ told Decided res }
+fn decided(outcome: Result<Decision, Fault>) -> Answer
+    ensures { result ≡ told Decided outcome }
 {
-    match res {
+    match outcome {
         Ok(decision) => Answer::Decided(decision),
         Err(fault) => Answer::Refused(fault),
     }
 }
 
-fn done(res: Result<(), Fault>) -> Answer
-    ensures { result ≡ told (λ _. Done) res }
+fn done(outcome: Result<(), Fault>) -> Answer
+    ensures { result ≡ told (λ _. Done) outcome }
 {
-    match res {
+    match outcome {
         Ok(()) => Answer::Done,
         Err(fault) => Answer::Refused(fault),
     }
