@@ -26,6 +26,6 @@ pub trait ReadingStore {
     fn version(&self, entry: usize, i: usize) -> Option<Version>
         ensures { result ≡ slice_get ((reading self.now).chains entry) i };
 
-    // What every store owes of that, and every user may rely on.
+    // What every reading store owes of its meaning, and every user may rely on.
     ghost readable: { (s : Self) → Readable (reading s) };
 }

@@ -25,5 +25,6 @@ pub trait WritingStore: ReadingStore {
     fn withdraw(&mut self, entry: usize) -> Result<(), Refusal>
         ensures { Withdraws (writing Self.ReadingStore.reading staged self.old) entry result (writing Self.ReadingStore.reading staged self.new) };
 
+    // What every writing store owes beside that.
     ghost writable: { (s : Self) → Writable (writing Self.ReadingStore.reading staged s) };
 }

@@ -1,4 +1,5 @@
--- A table store entry by entry: where its versions stand, how long a chain is, and that what is staged has room.
+-- A table store entry by entry: where its versions stand, how long a chain is, and that what is staged has room; and the two laws.
+-- All here is proved, and no contract rests on its wording: an implementation can name a lemma of specs/ alone.
 use Rattle.std.specs.Prelude.{◌≡◌, ℕ, ◌+◌, ◌*◌, ◌<◌, ◌≤◌, true, [], length, get_or, take, drop, is_some, Some, None, nat_lt, slice_index_or}
 use Rattle.std.proofs.Common.{sym, ap, ◌∙◌, ⊎_elim, arith, add-mul, add-zero, one-mul, length-drop, get_or-take, get_or-drop, length-take-le}
 use Rattle.std.specs.List.{slice_get}
