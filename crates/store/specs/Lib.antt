@@ -1,3 +1,4 @@
 pub mod Refusals
 pub mod Meaning
 pub mod Steps
+pub mod Texts

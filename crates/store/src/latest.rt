@@ -5,15 +5,12 @@ use crate::reading::ReadingStore;
 use crate::version::{OPENING, Version};
 
 // The last version of the chain of an entry; the opening version where there is no such entry.
+#[tactic(auto, using(crate::proofs::Chains::last_or_opening))]
 pub fn last_version<S: ReadingStore>(store: &S, entry: usize) -> Version
     ensures { result ≡ last ((S.ReadingStore.reading store.now).chains entry) }
 {
-    let len = store.chain_len(entry);
-    if len == 0 {
-        return OPENING;
-    }
-    match store.version(entry, len - 1) {
-        Some(version) => version,
-        None => OPENING,
+    match store.chain_len(entry) {
+        0 => OPENING,
+        len => store.version(entry, len - 1).unwrap_or(OPENING),
     }
 }

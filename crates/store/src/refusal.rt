@@ -1,32 +1,52 @@
-ghost use Rattle.std.specs.Prelude.{◌≡◌};
-ghost use Rattle.store.specs.Refusals.{number};
+ghost use Rattle.std.specs.Prelude.{◌≡◌, Some};
+ghost use Rattle.store.specs.Refusals.{number, reason};
 
-// Why a store, a rule's setting or an image is refused. docs/REFUSALS.md has the numbers.
+use std::error::Error;
+use std::fmt;
+
+// Why a store, a rule's setting or an image is refused, with its number. docs/REFUSALS.md says when.
 #[derive(Clone, Copy, PartialEq, Eq, Debug)]
 pub enum Refusal {
-    NoSuchEntry,
-    ValueBeyondReach,
-    ChainFull,
-    SizeOrSetting,
-    NothingStaged,
-    NoSuchAuthor,
-    NoImage,
-    MemoryTooShort,
+    NoSuchEntry = 2,
+    ValueBeyondReach = 6,
+    ChainFull = 7,
+    SizeOrSetting = 12,
+    NothingStaged = 13,
+    NoSuchAuthor = 14,
+    NoImage = 15,
+    MemoryTooShort = 16,
 }
 
 impl Refusal {
     pub fn number(self) -> u8
         ensures { result ≡ number self }
     {
+        self as u8
+    }
+
+    // In words for the one who asked.
+    pub fn reason(self) -> &'static str
+        ensures { result.now ≡ reason self }
+    {
         match self {
-            Refusal::NoSuchEntry => 2,
-            Refusal::ValueBeyondReach => 6,
-            Refusal::ChainFull => 7,
-            Refusal::SizeOrSetting => 12,
-            Refusal::NothingStaged => 13,
-            Refusal::NoSuchAuthor => 14,
-            Refusal::NoImage => 15,
-            Refusal::MemoryTooShort => 16,
+            Refusal::NoSuchEntry => "no such entry",
+            Refusal::ValueBeyondReach => "value beyond the store's reach",
+            Refusal::ChainFull => "chain full",
+            Refusal::SizeOrSetting => "size or setting out of range",
+            Refusal::NothingStaged => "nothing staged",
+            Refusal::NoSuchAuthor => "no such author",
+            Refusal::NoImage => "no image",
+            Refusal::MemoryTooShort => "memory too short",
         }
     }
 }
+
+impl fmt::Display for Refusal {
+    ghost output = { λ refusal. Some (reason refusal) };
+
+    fn fmt<W: fmt::Write>(&self, f: &mut fmt::Formatter<W>) -> fmt::Result {
+        f.write_str(self.reason())
+    }
+}
+
+impl Error for Refusal {}

@@ -1,3 +1,9 @@
+ghost use Rattle.std.specs.Prelude.{◌≡◌, Some};
+ghost use Rattle.store.specs.Steps.{is_author, within};
+ghost use Rattle.store.specs.Texts.{version_text};
+
+use std::fmt;
+
 // One committed or staged value of an entry, in femtoseconds, with its author: a seat and the serial of that seat's edit.
 #[derive(Clone, Copy, PartialEq, Eq, Debug)]
 pub struct Version {
@@ -12,3 +18,32 @@ pub const OPENING: Version = Version {
     seat: 255,
     serial: 0,
 };
+
+impl Version {
+    // Whether somebody may have written it: a seat up to 15, and a serial from 1 to 1,000,000.
+    pub fn has_author(self) -> bool
+        ensures { result ≡ is_author self }
+    {
+        self.seat < 16 && 1 <= self.serial && self.serial <= 1_000_000
+    }
+
+    // Whether its value lies no farther from 0 than this, on either side.
+    pub fn is_within(self, reach: u64) -> bool
+        ensures { result ≡ within reach self.value }
+    {
+        self.value.unsigned_abs() <= reach
+    }
+}
+
+impl fmt::Display for Version {
+    ghost output = { λ version. Some (version_text version) };
+
+    fn fmt<W: fmt::Write>(&self, f: &mut fmt::Formatter<W>) -> fmt::Result {
+        let Version {
+            value,
+            seat,
+            serial,
+        } = *self;
+        write!(f, "{value} by seat {seat} serial {serial}")
+    }
+}
