@@ -4,5 +4,6 @@
 pub mod latest;
 pub mod reading;
 pub mod refusal;
+pub mod text;
 pub mod version;
 pub mod writing;

@@ -1,0 +1,24 @@
+ghost use Rattle.std.specs.Prelude.{◌≡◌, IfOk, string_bytes};
+ghost use Rattle.store.specs.Texts.{chain_text};
+
+use crate::reading::ReadingStore;
+use std::alloc::{AllocError, Global};
+
+// The chain of an entry as text: a line for each version, the oldest first, each after two blanks.
+// Of an entry that the store does not have, no text.
+pub fn chain_text<S: ReadingStore>(
+    heap: Global,
+    store: &S,
+    entry: usize,
+) -> Result<String, AllocError>
+    ensures { IfOk result (λ text. string_bytes text ≡ chain_text ((S.ReadingStore.reading store.now).chains entry)) }
+{
+    let mut text = String::new(heap);
+    // By index: of a loop over `filter_map` the proof does not close, since its iterator is not typed at a type parameter.
+    for i in 0..store.chain_len(entry) {
+        if let Some(version) = store.version(entry, i) {
+            writeln!(text, "  {version}")?;
+        }
+    }
+    Ok(text)
+}
