@@ -29,7 +29,11 @@ fn chains_as_text(rt: HostRuntime) -> Result<(), Fail> {
         (2, ""),
     ];
     for (entry, text) in texts {
-        assert_eq!(rt; chain_text(heap, &store, entry)?.as_str(), text, "at {entry}");
+        assert_eq!(rt;
+            chain_text(heap, &store, entry)?.as_str(),
+            text,
+            "at {entry}"
+        );
     }
     Ok(())
 }
