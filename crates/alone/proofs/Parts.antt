@@ -1,6 +1,7 @@
 -- What the parts of a call that were accepted say: a lock shared or claimed, a version staged, published or withdrawn, a row not found.
 use Rattle.std.proofs.Common.{◌≡◌, ℕ, zero, suc, ◌<◌, Bool, true, false, cond, not, ◌&&◌, ◌||◌, eqb, ltb, ◌⊎◌, List, [], ◌∷◌, ◌++◌, get_or, is_some, Some, None, Ok, Err, Option, sym, refl, ap, ◌∙◌, ap₂, inl, inr, arith}
 use Rattle.std.proofs.lemmas.Bool.{eqb-true, and_parts}
+use Rattle.std.specs.List.{list_any}
 use Rattle.calls.specs.declared.fault.Fault.TheVariants.{LockInTheWay}
 use Rattle.calls.specs.declared.state.State.{State}
 use Rattle.calls.specs.declared.state.State.TheVariants.{Idle, Editing, Voting, Commit, Abort}
@@ -11,7 +12,6 @@ use Rattle.store.specs.Steps.{Answer, unless_refused, stage_answer, stage_after,
 use Rattle.pool.specs.declared.table.Row.{Row}
 use Rattle.pool.specs.Masks.{has, with_seat, has_other}
 use Rattle.pool.specs.Locks.{is_lock, by_writer, with_lock, share, claim, others_hold}
-use Rattle.pool.specs.Scans.{any_row}
 use Rattle.pool.specs.Calls.{or_else, up, spent}
 use Rattle.law.specs.Histories.{same}
 use Rattle.law.proofs.Sames.{same_tells}
@@ -123,7 +123,7 @@ module _ (m : Writing) (e : ℕ) (h : up (spend_answer m e) ≡ Ok tt) where
 -- ------------------------------------------------------------ rows
 
 -- a test that no row passes, and not the row past the last
-pub none_row : (f : Row → Bool) (d : Row) → f d ≡ false → (rows : List Row) → any_row f rows ≡ false → (y : ℕ) → f (get_or rows y d) ≡ false
+pub none_row : (f : Row → Bool) (d : Row) → f d ≡ false → (rows : List Row) → list_any f rows ≡ false → (y : ℕ) → f (get_or rows y d) ≡ false
 none_row f d k [] h y = k
 none_row f d k (r ∷ rows) h zero = grind arith
 none_row f d k (r ∷ rows) h (suc y) = none_row f d k rows (grind arith) y

@@ -1,12 +1,13 @@
 -- Each call of a pool, refused or accepted, keeps the invariant of its history.
 use Rattle.std.proofs.Common.{◌≡◌, ℕ, ◌+◌, ◌<◌, ◌≤◌, Bool, true, false, cond, not, ◌&&◌, ◌||◌, ltb, ◌⊎◌, List, ◌∷◌, ℤ, Some, None, Ok, Err, Result, sym, refl, ap, ◌∙◌, subst, ap₂, inl, inr, arith, length-set}
 use Rattle.std.proofs.lemmas.Bool.{ltb-true}
+use Rattle.std.specs.List.{list_any}
 use Rattle.calls.specs.declared.fault.Fault.{Fault}
 use Rattle.calls.specs.declared.fault.Fault.TheVariants.{SerialsUsedUp, NoLock, VotedAlready, VotesMissing, LocksRemain}
 use Rattle.calls.specs.declared.call.Call.{Call}
 use Rattle.calls.specs.declared.call.Call.TheVariants as C
-use Rattle.calls.specs.declared.answer.Answer.{Answer}
-use Rattle.calls.specs.declared.answer.Answer.TheVariants as A
+use Rattle.calls.specs.declared.answer.Reply.{Reply}
+use Rattle.calls.specs.declared.answer.Reply.TheVariants as A
 use Rattle.calls.specs.declared.state.State.{State}
 use Rattle.calls.specs.declared.state.State.TheVariants.{Abort}
 use Rattle.calls.specs.declared.state.Step.TheVariants as S
@@ -18,8 +19,7 @@ use Rattle.pool.specs.Masks.{has, with_seat, without_seat}
 use Rattle.pool.specs.Tables.{Moment, place_at, row_at, idle, unlocked, with_place, with_row, with_state, with_store}
 use Rattle.pool.specs.Checks.{passed}
 use Rattle.pool.specs.Locks as L
-use Rattle.pool.specs.declared.scans.Question.TheVariants.{VotedNo, VoteMissing, Held}
-use Rattle.pool.specs.Scans.{any_row, applies}
+use Rattle.pool.specs.Scans.{voted_no, held, lacks_vote}
 use Rattle.pool.specs.Calls.{Rule, Done, done, then, after, inside, begin, read, write, prepare, vote, decide, abort, finish, close, last_value, says, up, spent, version_by}
 use Rattle.law.specs.Histories.{Line, same}
 use Rattle.law.specs.OneByOne.{Chains}
@@ -63,10 +63,10 @@ shared_reader w m p e x l b = go w (same_tells p x)
 
 module _ (allows : Rule) (o : Chains) (s : Moment) (h : List Line) (i : Inv allows o (view s) h) (z : Sized s) where
   -- what a call that does this leads to
-  abbrev Tied : {T : Type 0} → Call → (T → Answer) → Result (Done T) Fault → Type 0
+  abbrev Tied : {T : Type 0} → Call → (T → Reply) → Result (Done T) Fault → Type 0
   Tied c f r = Inv allows o (view (after r s)) (record { call = c; answer = named f r } ∷ h) × Sized (after r s)
 
-  refused : {T : Type 0} (c : Call) (f : T → Answer) (x : Fault) → Tied c f (Err x)
+  refused : {T : Type 0} (c : Call) (f : T → Reply) (x : Fault) → Tied c f (Err x)
   refused c f x = (refused_step allows o (view s) h i c x, z)
 
   placed : (p : ℕ) (x : Place) → Sized (with_place s p x)
@@ -95,11 +95,11 @@ module _ (allows : Rule) (o : Chains) (s : Moment) (h : List Line) (i : Inv allo
       kept y (inr t) = rw t.0
 
   -- by whether a part of the call is refused, and by a test
-  by_result : {A T : Type 0} (c : Call) (f : T → Answer) (r : Result A Fault) (go : A → Result (Done T) Fault) → ((a : A) → r ≡ Ok a → Tied c f (go a)) → Tied c f (then r go)
+  by_result : {A T : Type 0} (c : Call) (f : T → Reply) (r : Result A Fault) (go : A → Result (Done T) Fault) → ((a : A) → r ≡ Ok a → Tied c f (go a)) → Tied c f (then r go)
   by_result c f (Ok a) go k = k a refl
   by_result c f (Err x) go k = refused c f x
 
-  by_test : {T : Type 0} (c : Call) (f : T → Answer) (b : Bool) (x y : Result (Done T) Fault) → (b ≡ true → Tied c f x) → (b ≡ false → Tied c f y) → Tied c f (cond b x y)
+  by_test : {T : Type 0} (c : Call) (f : T → Reply) (b : Bool) (x y : Result (Done T) Fault) → (b ≡ true → Tied c f x) → (b ≡ false → Tied c f y) → Tied c f (cond b x y)
   by_test c f true x y k m = k refl
   by_test c f false x y k m = m refl
 
@@ -147,13 +147,13 @@ module _ (allows : Rule) (o : Chains) (s : Moment) (h : List Line) (i : Inv allo
   pub close_tied : (p : ℕ) → Tied (C.Close p) (λ _. A.Done) (close s p)
   close_tied p =
       by_result (C.Close p) (λ _. A.Done) (passed s.table S.Close p true) _ (λ q e.
-      by_test (C.Close p) (λ _. A.Done) (any_row (applies Held p) s.table.rows) _ _
+      by_test (C.Close p) (λ _. A.Done) (list_any (held p) s.table.rows) _ _
       (λ _. refused {T = Unit {0}} (C.Close p) (λ _. A.Done) LocksRemain)
       (λ f.
       let k = passed_ok s.table S.Close p true q e in
       let m = next_close (place_at s.table p).state q k.2 in (
         alike allows o _ (with_phase (view s) p q) _ (moved p q k.0)
-            (rw m.1 (close_step allows o (view s) h i p k.0 m.0 (λ y. sym (holds_as y p) ∙ none_row (applies Held p) unlocked refl s.table.rows f y))),
+            (rw m.1 (close_step allows o (view s) h i p k.0 m.0 (λ y. sym (holds_as y p) ∙ none_row (held p) unlocked refl s.table.rows f y))),
         placed p _,
       )))
 
@@ -162,15 +162,15 @@ module _ (allows : Rule) (o : Chains) (s : Moment) (h : List Line) (i : Inv allo
       by_result (C.Decide p) A.Decided (passed s.table S.Decide p true) _ (λ q e.
       let k = passed_ok s.table S.Decide p true q e in
       let m = next_decide (place_at s.table p).state q k.2 in
-      by_test (C.Decide p) A.Decided (any_row (applies VotedNo p) s.table.rows) _ _
+      by_test (C.Decide p) A.Decided (list_any (voted_no p) s.table.rows) _ _
       (λ _. (alike allows o _ (with_phase (view s) p Abort) _ (moved p Abort k.0) (decide_abort_step allows o (view s) h i p k.0 m.0), placed p _))
-      (λ f. by_test (C.Decide p) A.Decided (any_row (applies VoteMissing p) s.table.rows) _ _
+      (λ f. by_test (C.Decide p) A.Decided (list_any (lacks_vote p) s.table.rows) _ _
       (λ _. refused (C.Decide p) A.Decided VotesMissing)
       (λ g. (
         alike allows o _ (with_phase (view s) p q) _ (moved p q k.0)
             (rw m.1 (commit_step allows o (view s) h i p k.0 m.0
-            (λ y w. all_voted (L.writes (row_at s.table y) p) _ _ (writes_as (row_at s.table y).writer p ∙ w) (none_row (applies VoteMissing p) unlocked refl s.table.rows g y))
-            (none_row (applies VotedNo p) unlocked refl s.table.rows f))),
+            (λ y w. all_voted (L.writes (row_at s.table y) p) _ _ (writes_as (row_at s.table y).writer p ∙ w) (none_row (lacks_vote p) unlocked refl s.table.rows g y))
+            (none_row (voted_no p) unlocked refl s.table.rows f))),
         placed p _,
       ))))
 

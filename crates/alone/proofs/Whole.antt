@@ -4,7 +4,7 @@ use Rattle.calls.specs.declared.fault.Fault.{Fault}
 use Rattle.calls.specs.declared.fault.Fault.TheVariants.{CannotOpen}
 use Rattle.calls.specs.declared.call.Call.{Call}
 use Rattle.calls.specs.declared.call.Call.TheVariants as C
-use Rattle.calls.specs.declared.answer.Answer.{Answer}
+use Rattle.calls.specs.Answers.{Answer}
 use Rattle.store.specs.Meaning.{Reading, Writing}
 use Rattle.store.specs.Steps.{unless_refused, spend_answer, with_staged, withdraw_after}
 use Rattle.store.specs.Steps as T

@@ -3,8 +3,9 @@ use Rattle.std.specs.Prelude.{◌≡◌, ℕ, Bool, List, [], ◌∷◌, length,
 use Rattle.calls.specs.declared.fault.Fault.{Fault}
 use Rattle.calls.specs.declared.call.Call.{Call}
 use Rattle.calls.specs.declared.call.Call.TheVariants.{Begin, Read, Write, Prepare, Vote, Decide, Abort, Finish, Close}
-use Rattle.calls.specs.declared.answer.Answer.{Answer}
-use Rattle.calls.specs.declared.answer.Answer.TheVariants as A
+use Rattle.calls.specs.declared.answer.Reply.{Reply}
+use Rattle.calls.specs.declared.answer.Reply.TheVariants as A
+use Rattle.calls.specs.Answers.{Answer}
 use Rattle.pool.specs.Tables.{Moment, row_at}
 use Rattle.pool.specs.Locks.{holds}
 use Rattle.pool.specs.Calls.{Rule, Done, answer, after, open_pool, begin, read, write, prepare, vote, decide, abort, finish, close}
@@ -14,11 +15,11 @@ use Rattle.law.specs.OneByOne.{Chains}
 use Rattle.law.specs.Promise.{AsIfAlone}
 
 -- the result of a call, as one of all answers
-abbrev pub told : {T : Type 0} → (T → Answer) → Result T Fault → Answer
-told f (Ok x) = f x
-told f (Err fault) = A.Refused fault
+abbrev pub told : {T : Type 0} → (T → Reply) → Result T Fault → Answer
+told f (Ok x) = Ok (f x)
+told f (Err fault) = Err fault
 
-abbrev pub named : {T : Type 0} → (T → Answer) → Result (Done T) Fault → Answer
+abbrev pub named : {T : Type 0} → (T → Reply) → Result (Done T) Fault → Answer
 named f does = told f (answer does)
 
 abbrev pub answer_of : Rule → Moment → Call → Answer

@@ -1,2 +1,4 @@
 pub mod Faults
 pub mod States
+pub mod Answers
+pub mod Texts

@@ -1,7 +1,10 @@
-ghost use Rattle.std.specs.Prelude.{◌≡◌};
+ghost use Rattle.std.specs.Prelude.{◌≡◌, Some};
 ghost use Rattle.calls.specs.declared.fault.Fault.TheVariants.{Store};
 ghost use Rattle.calls.specs.Faults.{number};
+ghost use Rattle.calls.specs.Texts.{fault_text};
 
+use std::error::Error;
+use std::fmt;
 use store::refusal::Refusal;
 
 // Why a pool refuses. What its store refuses is passed up as it is.
@@ -45,3 +48,14 @@ impl From<Refusal> for Fault {
         Fault::Store(refusal)
     }
 }
+
+impl fmt::Display for Fault {
+    ghost output = { λ fault. Some (fault_text fault) };
+
+    fn fmt<W: fmt::Write>(&self, f: &mut fmt::Formatter<W>) -> fmt::Result {
+        let number = self.number();
+        write!(f, "refused {number}")
+    }
+}
+
+impl Error for Fault {}

@@ -1,12 +1,13 @@
 -- Each accepted call, as what it does to a view, keeps the invariant.
-use Rattle.std.proofs.Common.{◌≡◌, ℕ, ◌+◌, ◌<◌, Bool, true, false, cond, not, ◌&&◌, ◌⊎◌, List, [], ◌∷◌, ◌++◌, ℤ, is_some, Some, None, Option, sym, refl, ap, ◌∙◌, subst, ap₂, inl, inr, append-nil, arith}
+use Rattle.std.proofs.Common.{◌≡◌, ℕ, ◌+◌, ◌<◌, Bool, true, false, cond, not, ◌&&◌, ◌⊎◌, List, [], ◌∷◌, ◌++◌, ℤ, is_some, Some, None, Ok, Err, Option, sym, refl, ap, ◌∙◌, subst, ap₂, inl, inr, append-nil, arith}
 use Rattle.std.proofs.lemmas.Bool.{cases_Bool}
 use Rattle.calls.specs.declared.state.State.{State}
 use Rattle.calls.specs.declared.state.State.TheVariants.{Idle, Editing, Voting, Commit, Abort}
 use Rattle.calls.specs.declared.call.Call.{Call}
 use Rattle.calls.specs.declared.call.Call.TheVariants as C
 use Rattle.calls.specs.declared.fault.Fault.{Fault}
-use Rattle.calls.specs.declared.answer.Answer.TheVariants.{Serial, Value, Voted, Decided, Done, Refused}
+use Rattle.calls.specs.declared.answer.Reply.TheVariants.{Serial, Value, Voted, Decided, Done}
+use Rattle.calls.specs.Answers.{Answer}
 use Rattle.calls.specs.declared.answer.Decision.{Decision}
 use Rattle.calls.specs.declared.answer.Decision.TheVariants as D
 use Rattle.store.specs.declared.version.Version.{Version}
@@ -18,6 +19,9 @@ use Rattle.law.proofs.Sames.{same_refl, same_tells, at, count_ext, count_one}
 use Rattle.law.proofs.Edits.{begun_more, deeds_ahead, loud, stays, Stands, is_refl, chain_kept, unfinished_kept, unfinished_done, allowed_kept, value_kept, stands_kept, earlier_all}
 use Rattle.law.proofs.Views.{View, Seen, At, Kept, InvOf, Inv, writes, holds, list, staged_or, is_live, is_ruled, is_committed}
 use Rattle.law.proofs.Cells.{begin_own, read_own, read_answer, write_own, write_other, prepare_own, vote_own, commit_own, abort_own, commit_other, finish_own, finish_none, finish_joined, finish_writer, finish_unwritten, finish_free, finish_others, finish_other, close_own, write_empty, adds_own, used_apart, allowed_own, grant_sum}
+
+abbrev valued : ℤ → Answer
+valued z = Ok (Value z)
 
 -- ------------------------------------------------------------ what a call may do to the reads before it
 
@@ -52,7 +56,7 @@ module _ (o : Chains) (x : Event) (h : List Event) (c : Calm x h) where
         let r = k.0 s e q a in
         let d = latest_edit s (told past) in (
           r.0,
-          (r.1 ∙ ap (λ (l : List Version). Value (or_last (latest e (deeds d (told past))) l)) (sym (value_kept x h c.undecided o d e (no_adds s (begun s (told past)) e r.0 r.2)))),
+          (r.1 ∙ ap (λ (l : List Version). Ok (Value (or_last (latest e (deeds d (told past))) l))) (sym (value_kept x h c.undecided o d e (no_adds s (begun s (told past)) e r.0 r.2)))),
           stands_kept x h c.undecided d e (λ _. c.staying) r.2,
         )),
     reads_kept past k.1,
@@ -172,7 +176,7 @@ module _ (allows : Rule) (o : Chains) (p : ℕ) (h : List Event) (v : View) (s e
       go (inl b) = as_it_was (nothing ∷ deeds (latest_edit s h) h) (rw b) k
       go (inr b) = as_it_was (deeds (latest_edit s h) h) (rw b) k
 
-refused_event : (c : Call) (f : Fault) → event c (Refused f) ≡ did (event c (Refused f)).seat nothing
+refused_event : (c : Call) (f : Fault) → event c (Err f) ≡ did (event c (Err f)).seat nothing
 refused_event (C.Begin s) f = refl
 refused_event (C.Read s e) f = refl
 refused_event (C.Write s e z) f = refl
@@ -208,7 +212,7 @@ module _ (allows : Rule) (o : Chains) (v : View) (h : List Line) (i : Inv allows
   plain : (x : Line) (y : Event) (w : View) → is_decision y.deed ≡ false → Calm y (told h)
       → ((s e : ℕ) → s < 16 → At allows o w (y ∷ told h) s e)
       → ((s e : ℕ) → x.call ≡ C.Read s e → accepted x.answer ≡ true
-      → (s < 16) × (x.answer ≡ Value (answers o (y ∷ told h) (told h) s e)) × Stands (latest_edit s (told h)) e (y ∷ told h))
+      → (s < 16) × (x.answer ≡ Ok (Value (answers o (y ∷ told h) (told h) s e))) × Stands (latest_edit s (told h)) e (y ∷ told h))
       → ((e : ℕ) → granted e (y ∷ told h) ≡ released e (y ∷ told h) + count (holds w e) 16)
       → InvOf allows o w (y ∷ told h) (x ∷ h)
   plain x y w q c cells fresh locks =
@@ -226,7 +230,7 @@ module _ (allows : Rule) (o : Chains) (v : View) (h : List Line) (i : Inv allows
   unruled_at : (p : ℕ) → p < 16 → is_live (v.phase p) ≡ true → is_ruled (v.phase p) ≡ false → among (latest_edit p (told h)) (decided (told h)) ≡ false
   unruled_at p l a b = (i.cells p 0 l).ruled (live_at p l a) ∙ b
 
-  pub begin_step : (p n : ℕ) → p < 16 → v.phase p ≡ Idle → Inv allows o (begun_view v p) (record { call = C.Begin p; answer = Serial n } ∷ h)
+  pub begin_step : (p n : ℕ) → p < 16 → v.phase p ≡ Idle → Inv allows o (begun_view v p) (record { call = C.Begin p; answer = Ok (Serial n) } ∷ h)
   begin_step p n l a =
       let x : Event = did p begins in
       let H : List Event = told h in
@@ -236,7 +240,7 @@ module _ (allows : Rule) (o : Chains) (v : View) (h : List Line) (i : Inv allows
       let u : under_way p (x ∷ H) ≡ true = rw (same_refl p) in
       let none : deeds (record { seat = p; serial = begun p H + 1 }) (x ∷ H) ≡ []
       = rw (same_refl p, idle) (deeds_ahead (record { seat = p; serial = begun p H + 1 }) H (omega arith)) in
-      plain (record { call = C.Begin p; answer = Serial n }) x (begun_view v p) refl
+      plain (record { call = C.Begin p; answer = Ok (Serial n) }) x (begun_view v p) refl
       (record { undecided = q; staying = λ u m. grind arith; apart = λ t. grind arith })
       (at (λ (s : ℕ). (e : ℕ) → s < 16 → At allows o (begun_view v p) (x ∷ H) s e) p
       (λ e _. seen_as (begun_view v p) k u (ap (λ (y : ℕ). among (record { seat = p; serial = y }) (decided H)) k ∙ i.ahead p (begun p H + 1) (omega arith))
@@ -247,19 +251,19 @@ module _ (allows : Rule) (o : Chains) (v : View) (h : List Line) (i : Inv allows
       (λ s e r. absurd (let z : ◌≡◌ {A = ℕ} 0 1 = cc in omega arith))
       i.locks
 
-  pub refused_step : (c : Call) (f : Fault) → Inv allows o v (record { call = c; answer = Refused f } ∷ h)
+  pub refused_step : (c : Call) (f : Fault) → Inv allows o v (record { call = c; answer = Err f } ∷ h)
   refused_step c f =
-      let p : ℕ = (event c (Refused f)).seat in
-      let x : Line = record { call = c; answer = Refused f } in
+      let p : ℕ = (event c (Err f)).seat in
+      let x : Line = record { call = c; answer = Err f } in
       subst (λ (y : Event). InvOf allows o v (y ∷ told h) (x ∷ h)) (sym (refused_event c f))
       (plain x (did p nothing) v refl (calm_quiet (did p nothing) (told h) refl refl) (λ s e m. quiet allows o p (told h) v s e (i.cells s e m))
       (λ s e r t. absurd (let z : true ≡ false = sym t in let y : ◌≡◌ {A = ℕ} 0 1 = cc in omega arith)) i.locks)
 
-  pub prepare_step : (p : ℕ) → p < 16 → v.phase p ≡ Editing → Inv allows o (with_phase v p Voting) (record { call = C.Prepare p; answer = Done } ∷ h)
+  pub prepare_step : (p : ℕ) → p < 16 → v.phase p ≡ Editing → Inv allows o (with_phase v p Voting) (record { call = C.Prepare p; answer = Ok Done } ∷ h)
   prepare_step p l a =
       let x : Event = did p nothing in
       let w : View = with_phase v p Voting in
-      plain (record { call = C.Prepare p; answer = Done }) x w refl (calm_quiet x (told h) refl refl)
+      plain (record { call = C.Prepare p; answer = Ok Done }) x w refl (calm_quiet x (told h) refl refl)
       (at (λ (s : ℕ). (e : ℕ) → s < 16 → At allows o w (x ∷ told h) s e) p
       (λ e m. quiet allows o p (told h) w p e (rw (same_refl p) (prepare_own (i.cells p e m) a)))
       (λ s t e m. quiet allows o p (told h) w s e (rw t (i.cells s e m))))
@@ -268,11 +272,11 @@ module _ (allows : Rule) (o : Chains) (v : View) (h : List Line) (i : Inv allows
 
   pub vote_step : (p e : ℕ) (b : Bool) → p < 16 → v.phase p ≡ Voting → holds v e p ≡ true
       → b ≡ cond (writes (v.writer e) p) (allows e (last (v.chains e)).value (staged_or (v.staged e) (v.chains e))) true
-      → Inv allows o (voted_view v p e b) (record { call = C.Vote p e; answer = Voted b } ∷ h)
+      → Inv allows o (voted_view v p e b) (record { call = C.Vote p e; answer = Ok (Voted b) } ∷ h)
   vote_step p e b l a f g =
       let x : Event = did p nothing in
       let w : View = voted_view v p e b in
-      plain (record { call = C.Vote p e; answer = Voted b }) x w refl (calm_quiet x (told h) refl refl)
+      plain (record { call = C.Vote p e; answer = Ok (Voted b) }) x w refl (calm_quiet x (told h) refl refl)
       (at (λ (s : ℕ). (y : ℕ) → s < 16 → At allows o w (x ∷ told h) s y) p
       (at (λ (y : ℕ). p < 16 → At allows o w (x ∷ told h) p y) e
       (λ m. quiet allows o p (told h) w p e (rw (same_refl p, same_refl e) (vote_own (i.cells p e m) b (not b) a f g refl)))
@@ -295,7 +299,7 @@ module _ (allows : Rule) (o : Chains) (v : View) (h : List Line) (i : Inv allows
 
   pub read_step : (p e : ℕ) (z : ℤ) → p < 16 → v.phase p ≡ Editing → (is_some (v.writer e) && not (writes (v.writer e) p)) ≡ false
       → z ≡ cond (writes (v.writer e) p) (staged_or (v.staged e) (v.chains e)) (last (v.chains e)).value
-      → Inv allows o (read_view v p e) (record { call = C.Read p e; answer = Value z } ∷ h)
+      → Inv allows o (read_view v p e) (record { call = C.Read p e; answer = Ok (Value z) } ∷ h)
   read_step p e z l a f r =
       let x : Event = did p (reads e) in
       let H : List Event = told h in
@@ -303,7 +307,7 @@ module _ (allows : Rule) (o : Chains) (v : View) (h : List Line) (i : Inv allows
       let q : loud (reads e) ≡ true → among (latest_edit p H) (decided H) ≡ false = λ t. grind arith in
       let u : under_way p H ≡ true = live_at p l (ap is_live a) in
       let m : among (latest_edit p H) (decided H) ≡ false = unruled_at p l (ap is_live a) (ap is_ruled a) in
-      plain (record { call = C.Read p e; answer = Value z }) x w refl (calm_quiet x H refl refl)
+      plain (record { call = C.Read p e; answer = Ok (Value z) }) x w refl (calm_quiet x H refl refl)
       (at (λ (s : ℕ). (y : ℕ) → s < 16 → At allows o w (x ∷ H) s y) p
       (at (λ (y : ℕ). p < 16 → At allows o w (x ∷ H) p y) e
       (λ k. own allows o p (reads e) H w e u refl
@@ -315,10 +319,10 @@ module _ (allows : Rule) (o : Chains) (v : View) (h : List Line) (i : Inv allows
       (λ s y c _.
       let b : p ≡ s = cc in
       let d : e ≡ y = cc in
-      subst (λ (s : ℕ). (s < 16) × (Value z ≡ Value (answers o (x ∷ H) H s y)) × Stands (latest_edit s H) y (x ∷ H)) b
-      (subst (λ (y : ℕ). (p < 16) × (Value z ≡ Value (answers o (x ∷ H) H p y)) × Stands (latest_edit p H) y (x ∷ H)) d (
+      subst (λ (s : ℕ). (s < 16) × (valued z ≡ valued (answers o (x ∷ H) H s y)) × Stands (latest_edit s H) y (x ∷ H)) b
+      (subst (λ (y : ℕ). (p < 16) × (valued z ≡ valued (answers o (x ∷ H) H p y)) × Stands (latest_edit p H) y (x ∷ H)) d (
         l,
-        ap Value (r ∙ read_answer (i.cells p e l) a f
+        ap valued (r ∙ read_answer (i.cells p e l) a f
             ∙ ap (λ (c : List Version). or_last (latest e (deeds (latest_edit p H) H)) c) (sym (chain_kept x H o (decided H) e q) ∙ ap (λ (ds : List Edit). chain o (x ∷ H) ds e) (sym (earlier_all (latest_edit p H) (decided H) m)))),
         inr (rw (same_refl p), rw (same_refl p) u, rw (same_refl p, u, same_refl (begun p H), same_refl e)),
       )))
@@ -328,14 +332,14 @@ module _ (allows : Rule) (o : Chains) (v : View) (h : List Line) (i : Inv allows
 
   pub write_step : (p e : ℕ) (z : ℤ) → p < 16 → v.phase p ≡ Editing → (v.writer e ≡ None) ⊎ (v.writer e ≡ Some p)
       → ((s : ℕ) → s < 16 → same p s ≡ false → holds v e s ≡ false)
-      → Inv allows o (written_view v p e z) (record { call = C.Write p e z; answer = Done } ∷ h)
+      → Inv allows o (written_view v p e z) (record { call = C.Write p e z; answer = Ok Done } ∷ h)
   write_step p e z l a g f =
       let x : Event = did p (writing e z) in
       let H : List Event = told h in
       let w : View = written_view v p e z in
       let u : under_way p H ≡ true = live_at p l (ap is_live a) in
       let q : loud (writing e z) ≡ true → among (latest_edit p H) (decided H) ≡ false = λ _. unruled_at p l (ap is_live a) (ap is_ruled a) in
-      plain (record { call = C.Write p e z; answer = Done }) x w refl (record { undecided = q; staying = λ _ _. refl; apart = λ t. grind arith })
+      plain (record { call = C.Write p e z; answer = Ok Done }) x w refl (record { undecided = q; staying = λ _ _. refl; apart = λ t. grind arith })
       (at (λ (s : ℕ). (y : ℕ) → s < 16 → At allows o w (x ∷ H) s y) p
       (at (λ (y : ℕ). p < 16 → At allows o w (x ∷ H) p y) e
       (λ k. own allows o p (writing e z) H w e u refl
@@ -435,7 +439,7 @@ module _ (allows : Rule) (o : Chains) (v : View) (h : List Line) (i : Inv allows
         go (inr q) = inr (q, t)
 
   pub commit_step : (p : ℕ) → p < 16 → v.phase p ≡ Voting → ((e : ℕ) → writes (v.writer e) p ≡ true → v.voted e p ≡ true) → ((e : ℕ) → v.against e p ≡ false)
-      → Inv allows o (with_phase v p Commit) (record { call = C.Decide p; answer = Decided D.Commit } ∷ h)
+      → Inv allows o (with_phase v p Commit) (record { call = C.Decide p; answer = Ok (Decided D.Commit) } ∷ h)
   commit_step p l a f g =
       let x : Event = did p (decides D.Commit) in
       let H : List Event = told h in
@@ -443,7 +447,7 @@ module _ (allows : Rule) (o : Chains) (v : View) (h : List Line) (i : Inv allows
       let u : under_way p H ≡ true = lives p D.Commit l (inr a) in
       let m : among (latest_edit p H) (decided H) ≡ false = open_yet p D.Commit l (inr a) in
       let now : among (latest_edit p H) (decided (x ∷ H)) ≡ true = rw (is_refl (latest_edit p H)) in
-      ruling (record { call = C.Decide p; answer = Decided D.Commit }) w p D.Commit
+      ruling (record { call = C.Decide p; answer = Ok (Decided D.Commit) }) w p D.Commit
       (λ s e r. let z : ◌≡◌ {A = ℕ} 0 1 = cc in omega arith)
       (calm_ruled p D.Commit l (inr a))
       (at (λ (s : ℕ). (e : ℕ) → s < 16 → At allows o w (x ∷ H) s e) p
@@ -479,14 +483,14 @@ module _ (allows : Rule) (o : Chains) (v : View) (h : List Line) (i : Inv allows
       (λ e z q. absurd (let n : [] ≡ z ∷ [] = sym (adds_ruled p D.Abort l a e) ∙ q in let k : ◌≡◌ {A = ℕ} 0 1 = cc in omega arith))
       (λ e. refl)
 
-  pub decide_abort_step : (p : ℕ) → p < 16 → v.phase p ≡ Voting → Inv allows o (with_phase v p Abort) (record { call = C.Decide p; answer = Decided D.Abort } ∷ h)
-  decide_abort_step p l a = aborting (record { call = C.Decide p; answer = Decided D.Abort }) (λ s e r. let z : ◌≡◌ {A = ℕ} 0 1 = cc in omega arith) p l (inr a)
+  pub decide_abort_step : (p : ℕ) → p < 16 → v.phase p ≡ Voting → Inv allows o (with_phase v p Abort) (record { call = C.Decide p; answer = Ok (Decided D.Abort) } ∷ h)
+  decide_abort_step p l a = aborting (record { call = C.Decide p; answer = Ok (Decided D.Abort) }) (λ s e r. let z : ◌≡◌ {A = ℕ} 0 1 = cc in omega arith) p l (inr a)
 
-  pub abort_step : (p : ℕ) → p < 16 → (v.phase p ≡ Editing) ⊎ (v.phase p ≡ Voting) → Inv allows o (with_phase v p Abort) (record { call = C.Abort p; answer = Done } ∷ h)
-  abort_step p l a = aborting (record { call = C.Abort p; answer = Done }) (λ s e r. let z : ◌≡◌ {A = ℕ} 0 1 = cc in omega arith) p l a
+  pub abort_step : (p : ℕ) → p < 16 → (v.phase p ≡ Editing) ⊎ (v.phase p ≡ Voting) → Inv allows o (with_phase v p Abort) (record { call = C.Abort p; answer = Ok Done } ∷ h)
+  abort_step p l a = aborting (record { call = C.Abort p; answer = Ok Done }) (λ s e r. let z : ◌≡◌ {A = ℕ} 0 1 = cc in omega arith) p l a
 
   pub close_step : (p : ℕ) → p < 16 → is_ruled (v.phase p) ≡ true → ((e : ℕ) → holds v e p ≡ false)
-      → Inv allows o (with_phase v p Idle) (record { call = C.Close p; answer = Done } ∷ h)
+      → Inv allows o (with_phase v p Idle) (record { call = C.Close p; answer = Ok Done } ∷ h)
   close_step p l a f =
       let x : Event = did p closes in
       let H : List Event = told h in
@@ -494,7 +498,7 @@ module _ (allows : Rule) (o : Chains) (v : View) (h : List Line) (i : Inv allows
       let q : loud closes ≡ true → among (latest_edit p H) (decided H) ≡ false = λ t. grind arith in
       let u : under_way p H ≡ true = live_at p l (grind arith) in
       let m : among (latest_edit p H) (decided H) ≡ true = (i.cells p 0 l).ruled u ∙ a in
-      plain (record { call = C.Close p; answer = Done }) x w refl (record { undecided = q; staying = λ _ n. absurd (let z : true ≡ false = sym m ∙ n in let y : ◌≡◌ {A = ℕ} 0 1 = cc in omega arith); apart = λ t. grind arith })
+      plain (record { call = C.Close p; answer = Ok Done }) x w refl (record { undecided = q; staying = λ _ n. absurd (let z : true ≡ false = sym m ∙ n in let y : ◌≡◌ {A = ℕ} 0 1 = cc in omega arith); apart = λ t. grind arith })
       (at (λ (s : ℕ). (e : ℕ) → s < 16 → At allows o w (x ∷ H) s e) p
       (λ e k. own allows o p closes H w e u refl
       (rw (same_refl p, unfinished_kept x H (decided H) e q refl, chain_kept x H o (decided H) e q) (close_own (i.cells p e k) a (f e))))
@@ -503,7 +507,7 @@ module _ (allows : Rule) (o : Chains) (v : View) (h : List Line) (i : Inv allows
       i.locks
 
   pub finish_step : (p e : ℕ) → p < 16 → is_ruled (v.phase p) ≡ true → holds v e p ≡ true
-      → Inv allows o (finished_view v p e) (record { call = C.Finish p e; answer = Done } ∷ h)
+      → Inv allows o (finished_view v p e) (record { call = C.Finish p e; answer = Ok Done } ∷ h)
   finish_step p e l a f =
       let x : Event = did p (finishes e) in
       let H : List Event = told h in
@@ -512,7 +516,7 @@ module _ (allows : Rule) (o : Chains) (v : View) (h : List Line) (i : Inv allows
       let q : loud (finishes e) ≡ true → among (latest_edit p H) (decided H) ≡ false = λ t. grind arith in
       let u : under_way p H ≡ true = live_at p l (grind arith) in
       let none : unfinished (x ∷ H) (decided H) e ≡ [] = unfinished_done p e H u (decided H) ∙ finish_none c a f in
-      plain (record { call = C.Finish p e; answer = Done }) x w refl (calm_quiet x H refl refl)
+      plain (record { call = C.Finish p e; answer = Ok Done }) x w refl (calm_quiet x H refl refl)
       (at (λ (s : ℕ). (y : ℕ) → s < 16 → At allows o w (x ∷ H) s y) p
       (at (λ (y : ℕ). p < 16 → At allows o w (x ∷ H) p y) e
       (λ k. own allows o p (finishes e) H w e u refl

@@ -1,9 +1,9 @@
 -- A pool as functions of seat and entry, and the invariant that ties it to the history of its calls.
-use Rattle.std.proofs.Common.{◌≡◌, ℕ, ◌+◌, ◌<◌, Bool, true, false, cond, not, ◌&&◌, ◌||◌, List, [], ◌∷◌, ◌++◌, ℤ, is_some, Some, None, Option}
+use Rattle.std.proofs.Common.{◌≡◌, ℕ, ◌+◌, ◌<◌, Bool, true, false, cond, not, ◌&&◌, ◌||◌, List, [], ◌∷◌, ◌++◌, ℤ, is_some, Some, None, Ok, Option}
 use Rattle.calls.specs.declared.state.State.{State}
 use Rattle.calls.specs.declared.state.State.TheVariants.{Idle, Editing, Voting, Commit, Abort}
 use Rattle.calls.specs.declared.call.Call.TheVariants.{Read}
-use Rattle.calls.specs.declared.answer.Answer.TheVariants.{Value}
+use Rattle.calls.specs.declared.answer.Reply.TheVariants.{Value}
 use Rattle.store.specs.declared.version.Version.{Version}
 use Rattle.store.specs.Meaning.{last}
 use Rattle.law.specs.Histories.{Line, Event, Deed, accepted, told, same, begun, under_way, latest_edit, deeds, used, finished, committed, latest}
@@ -101,7 +101,7 @@ abbrev pub Kept : Chains → List Event → List Line → Type 0
 Kept o h [] = Unit {0}
 Kept o h (x ∷ past) =
     ((s e : ℕ) → x.call ≡ Read s e → accepted x.answer ≡ true
-    → (s < 16) × (x.answer ≡ Value (answers o h (told past) s e)) × Stands (latest_edit s (told past)) e h)
+    → (s < 16) × (x.answer ≡ Ok (Value (answers o h (told past) s e))) × Stands (latest_edit s (told past)) e h)
     × Kept o h past
 
 -- the invariant: of the events h that the lines ls tell

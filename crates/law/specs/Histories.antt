@@ -1,9 +1,9 @@
 -- What happened on a pool, the latest call first, and the edits in it.
-use Rattle.std.specs.Prelude.{ℕ, ◌+◌, Bool, true, false, cond, ◌&&◌, ◌||◌, List, [], ◌∷◌, ℤ, Some, None, Option, ◌==◌}
+use Rattle.std.specs.Prelude.{ℕ, ◌+◌, Bool, true, false, cond, ◌&&◌, ◌||◌, List, [], ◌∷◌, ℤ, Some, None, Ok, Err, Option, ◌==◌}
 use Rattle.calls.specs.declared.call.Call.{Call}
 use Rattle.calls.specs.declared.call.Call.TheVariants.{Begin, Read, Write, Prepare, Vote, Decide, Abort, Finish, Close}
-use Rattle.calls.specs.declared.answer.Answer.{Answer}
-use Rattle.calls.specs.declared.answer.Answer.TheVariants.{Serial, Value, Voted, Decided, Done, Refused}
+use Rattle.calls.specs.declared.answer.Reply.TheVariants.{Serial, Value, Voted, Decided, Done}
+use Rattle.calls.specs.Answers.{Answer}
 use Rattle.calls.specs.declared.answer.Decision.{Decision}
 use Rattle.calls.specs.declared.answer.Decision.TheVariants as D
 
@@ -37,21 +37,17 @@ pub record Event : Type 0 where
 
 -- all but a refusal
 abbrev pub accepted : Answer → Bool
-accepted (Serial n) = true
-accepted (Value v) = true
-accepted (Voted v) = true
-accepted (Decided d) = true
-accepted Done = true
-accepted (Refused f) = false
+accepted (Ok reply) = true
+accepted (Err fault) = false
 
 -- what a decide said
 abbrev pub said : Answer → Decision
-said (Serial n) = D.Abort
-said (Value v) = D.Abort
-said (Voted v) = D.Abort
-said (Decided d) = d
-said Done = D.Abort
-said (Refused f) = D.Abort
+said (Ok (Serial n)) = D.Abort
+said (Ok (Value v)) = D.Abort
+said (Ok (Voted v)) = D.Abort
+said (Ok (Decided d)) = d
+said (Ok Done) = D.Abort
+said (Err fault) = D.Abort
 
 -- what is told of a call
 abbrev pub event : Call → Answer → Event

@@ -1,7 +1,7 @@
 -- "Every edit as if made alone": what is promised of every history of a pool.
-use Rattle.std.specs.Prelude.{◌≡◌, ℕ, ◌+◌, Bool, true, List, [], ◌∷◌, ◌++◌}
+use Rattle.std.specs.Prelude.{◌≡◌, ℕ, ◌+◌, Bool, true, List, [], ◌∷◌, ◌++◌, Ok}
 use Rattle.calls.specs.declared.call.Call.TheVariants.{Read}
-use Rattle.calls.specs.declared.answer.Answer.TheVariants.{Value}
+use Rattle.calls.specs.declared.answer.Reply.TheVariants.{Value}
 use Rattle.store.specs.declared.version.Version.{Version}
 pub use Rattle.rules.specs.House.{Rule}
 use Rattle.store.specs.Meaning.{last}
@@ -12,7 +12,7 @@ use Rattle.law.specs.OneByOne.{Chains, decided, adds, chain, unfinished, answers
 abbrev pub Reads : Chains → List Event → List Line → Type 0
 Reads opened h [] = Unit {0}
 Reads opened h (x ∷ past) =
-    ((s e : ℕ) → x.call ≡ Read s e → accepted x.answer ≡ true → x.answer ≡ Value (answers opened h (told past) s e))
+    ((s e : ℕ) → x.call ≡ Read s e → accepted x.answer ≡ true → x.answer ≡ Ok (Value (answers opened h (told past) s e)))
     × Reads opened h past
 
 -- each value that an edit added is allowed after the last value that the edits before it left

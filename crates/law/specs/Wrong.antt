@@ -1,9 +1,9 @@
 -- Pools that break the promise, each by one part of it, on a history of eleven calls.
-use Rattle.std.specs.Prelude.{ℕ, Bool, true, false, cond, List, [], ◌∷◌, ℤ, pos, negsuc, nat_lt}
+use Rattle.std.specs.Prelude.{ℕ, Bool, true, false, cond, List, [], ◌∷◌, ℤ, pos, negsuc, Ok, Err, nat_lt}
 use Rattle.calls.specs.declared.call.Call.{Call}
 use Rattle.calls.specs.declared.call.Call.TheVariants.{Begin, Read, Write, Prepare, Vote, Decide, Finish, Close}
-use Rattle.calls.specs.declared.answer.Answer.{Answer}
-use Rattle.calls.specs.declared.answer.Answer.TheVariants.{Serial, Value, Voted, Decided, Done, Refused}
+use Rattle.calls.specs.declared.answer.Reply.TheVariants.{Serial, Value, Voted, Decided, Done}
+use Rattle.calls.specs.Answers.{Answer}
 use Rattle.calls.specs.declared.answer.Decision.TheVariants as D
 use Rattle.calls.specs.declared.fault.Fault.TheVariants.{LockInTheWay}
 use Rattle.store.specs.Meaning.{opening}
@@ -23,7 +23,7 @@ calls =
 -- the answers, with what the last read answered
 abbrev pub answers : ℤ → List Answer
 answers z =
-    Serial 1 ∷ (Value (pos 0) ∷ (Done ∷ (Serial 1 ∷ (Refused LockInTheWay ∷ (Done ∷ (Voted true ∷ (Decided D.Commit ∷ (Done ∷ (Value z ∷ (Done ∷ []))))))))))
+    Ok (Serial 1) ∷ (Ok (Value (pos 0)) ∷ (Ok Done ∷ (Ok (Serial 1) ∷ (Err LockInTheWay ∷ (Ok Done ∷ (Ok (Voted true) ∷ (Ok (Decided D.Commit) ∷ (Ok Done ∷ (Ok (Value z) ∷ (Ok Done ∷ []))))))))))
 
 abbrev pub told_right : List Line
 told_right = history [] calls (answers (negsuc 2999999))

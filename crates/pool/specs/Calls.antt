@@ -1,11 +1,13 @@
 -- What each call on a pool answers and leaves. A call that is refused leaves everything as it was.
 use Rattle.std.specs.Prelude.{ℕ, ◌+◌, Bool, true, cond, ◌&&◌, ℤ, Some, None, Ok, Err, Option, Result, ◌==◌, nat_le, nat_lt}
+use Rattle.std.specs.List.{list_any}
 use Rattle.calls.specs.declared.answer.Decision.{Decision}
 use Rattle.calls.specs.declared.answer.Decision.TheVariants as D
 use Rattle.calls.specs.declared.fault.Fault.{Fault}
 use Rattle.calls.specs.declared.fault.Fault.TheVariants.{SerialsUsedUp, NoLock, VotedAlready, VotesMissing, LocksRemain, CannotOpen, Store}
 use Rattle.calls.specs.declared.state.State.{State}
 use Rattle.calls.specs.declared.state.State.TheVariants.{Idle, Editing, Voting, Commit, Abort}
+use Rattle.calls.specs.declared.state.Step.{Step}
 use Rattle.calls.specs.declared.state.Step.TheVariants as S
 use Rattle.store.specs.declared.refusal.Refusal.{Refusal}
 use Rattle.store.specs.declared.version.Version.{Version}
@@ -15,8 +17,7 @@ pub use Rattle.rules.specs.House.{Rule}
 use Rattle.pool.specs.Checks.{passed}
 use Rattle.pool.specs.Masks.{has}
 use Rattle.pool.specs.Locks.{share, claim, release, holds, writes, with_vote}
-use Rattle.pool.specs.declared.scans.Question.TheVariants.{VotedNo, VoteMissing, Held}
-use Rattle.pool.specs.Scans.{any_row, applies, withdrawn}
+use Rattle.pool.specs.Scans.{voted_no, held, lacks_vote, withdrawn}
 use Rattle.pool.specs.Tables.{Moment, fresh, moment, place_at, row_at, with_row, with_place, with_state, with_store}
 
 -- an accepted call: its answer, and what it leaves
@@ -55,11 +56,15 @@ begin s p =
     (Ok (done ((place_at s.table p).serial + 1) (with_place s p record { state = q; serial = (place_at s.table p).serial + 1 })))
     (Err SerialsUsedUp))
 
+-- a call that only leads to another state
+abbrev pub only_steps : Step → Moment → ℕ → Result (Done (Unit {0})) Fault
+only_steps step s p = then (passed s.table step p true) (λ q. Ok (done tt (with_state s p q)))
+
 abbrev pub prepare : Moment → ℕ → Result (Done (Unit {0})) Fault
-prepare s p = then (passed s.table S.Prepare p true) (λ q. Ok (done tt (with_state s p q)))
+prepare = only_steps S.Prepare
 
 abbrev pub abort : Moment → ℕ → Result (Done (Unit {0})) Fault
-abort s p = then (passed s.table S.Abort p true) (λ q. Ok (done tt (with_state s p q)))
+abort = only_steps S.Abort
 
 -- the last value of the entry's chain, and the staged one; where none is staged, the last
 abbrev pub last_value : Moment → ℕ → ℤ
@@ -113,9 +118,9 @@ vote allows s p e =
 abbrev pub decide : Moment → ℕ → Result (Done Decision) Fault
 decide s p =
     then (passed s.table S.Decide p true) (λ q.
-    cond (any_row (applies VotedNo p) s.table.rows)
+    cond (list_any (voted_no p) s.table.rows)
     (Ok (done D.Abort (with_state s p Abort)))
-    (cond (any_row (applies VoteMissing p) s.table.rows) (Err VotesMissing) (Ok (done D.Commit (with_state s p q)))))
+    (cond (list_any (lacks_vote p) s.table.rows) (Err VotesMissing) (Ok (done D.Commit (with_state s p q)))))
 
 -- a committed write is published, an aborted one withdrawn; a read lock leaves the store alone
 abbrev pub spent : Writing → ℕ → State → Writing
@@ -137,7 +142,7 @@ finish s p e =
 abbrev pub close : Moment → ℕ → Result (Done (Unit {0})) Fault
 close s p =
     then (passed s.table S.Close p true) (λ q.
-    cond (any_row (applies Held p) s.table.rows) (Err LocksRemain) (Ok (done tt (with_state s p q))))
+    cond (list_any (held p) s.table.rows) (Err LocksRemain) (Ok (done tt (with_state s p q))))
 
 -- opening keeps the chains, and sets every seat idle with serial 0
 abbrev pub open_pool : Moment → ℕ → Result (Done (Unit {0})) Fault

@@ -1,23 +1,22 @@
 -- What is looked for in every row, and the withdrawal of all that is staged.
-use Rattle.std.specs.Prelude.{ℕ, zero, suc, Bool, true, false, cond, not, ◌&&◌, List, [], ◌∷◌}
+use Rattle.std.specs.Prelude.{ℕ, zero, suc, Bool, not, ◌&&◌}
 use Rattle.store.specs.Meaning.{Writing}
 use Rattle.store.specs.Steps.{withdraw_after}
-use Rattle.pool.specs.declared.scans.Question.{Question}
-use Rattle.pool.specs.declared.scans.Question.TheVariants.{VotedNo, VoteMissing, Held}
 use Rattle.pool.specs.declared.table.Row.{Row}
 use Rattle.pool.specs.Masks.{has}
 use Rattle.pool.specs.Locks.{holds}
 
--- the seat voted no on the entry; holds it and has not voted; holds it
-abbrev pub applies : Question → ℕ → Row → Bool
-applies VotedNo p r = has r.against p
-applies VoteMissing p r = holds r p && not (has r.voted p)
-applies Held p r = holds r p
+-- the seat voted no on the entry
+abbrev pub voted_no : ℕ → Row → Bool
+voted_no p r = has r.against p
 
--- some row passes the test
-abbrev pub any_row : (Row → Bool) → List Row → Bool
-any_row f [] = false
-any_row f (r ∷ rs) = cond (f r) true (any_row f rs)
+-- it holds it
+abbrev pub held : ℕ → Row → Bool
+held p r = holds r p
+
+-- and has not voted
+abbrev pub lacks_vote : ℕ → Row → Bool
+lacks_vote p r = holds r p && not (has r.voted p)
 
 -- what is staged at the entries below n is withdrawn
 abbrev pub withdrawn : Writing → ℕ → Writing

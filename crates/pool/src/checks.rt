@@ -1,25 +1,27 @@
-ghost use Rattle.std.specs.Prelude.{◌≡◌, ◌<◌, true, Ok, Err, OnOk};
+ghost use Rattle.std.specs.Prelude.{◌≡◌, true, Ok, Err, MatchResult};
 ghost use Rattle.pool.specs.Checks.{passed};
 
+use crate::seat::Seat;
 use crate::table::Table;
 use calls::fault::Fault;
 use calls::state::{State, Step, next_state};
 use store::refusal::Refusal;
 
-// The checks that every call begins with, and the state that it leads to.
-pub(crate) fn check(table: &Table, step: Step, seat: usize, is_entry: bool) -> Result<State, Fault>
-    ensures answer { result ≡ passed table.now step seat is_entry }
-    ensures seated { OnOk result ((seat < 16) × (is_entry ≡ true)) }
+// A seat whose call has passed the checks, and the state that the call leads to.
+#[derive(Clone, Copy)]
+pub(crate) struct Turn {
+    pub(crate) seat: Seat,
+    pub(crate) next: State,
+}
+
+// The checks that every call begins with: the seat, then the entry, then the state.
+pub(crate) fn check(table: &Table, step: Step, seat: usize, is_entry: bool) -> Result<Turn, Fault>
+    ensures { MatchResult result (λ turn. (passed table.now step seat is_entry ≡ Ok turn.next) × (turn.seat.number ≡ seat) × (is_entry ≡ true)) (λ fault. passed table.now step seat is_entry ≡ Err fault) }
 {
-    // the table has room for sixteen seats, whatever their number
-    if seat >= table.seats || seat >= 16 {
-        return Err(Fault::NoSuchSeat);
-    }
+    let seat = table.seat(seat).ok_or(Fault::NoSuchSeat)?;
     if !is_entry {
         return Err(Fault::Store(Refusal::NoSuchEntry));
     }
-    match next_state(step, table.places[seat].state) {
-        Some(next) => Ok(next),
-        None => Err(Fault::WrongState),
-    }
+    let next = next_state(step, table.places[seat.index()].state).ok_or(Fault::WrongState)?;
+    Ok(Turn { seat, next })
 }

@@ -4,6 +4,6 @@
 mod checks;
 mod lock;
 pub mod pool;
-mod scans;
+mod row;
+pub mod seat;
 pub mod table;
-mod votes;

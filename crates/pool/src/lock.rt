@@ -1,8 +1,9 @@
-ghost use Rattle.std.specs.Prelude.{◌≡◌, ℕ, ◌<◌, true, false, cond, is_some, Some, MatchOption, MatchResult};
+ghost use Rattle.std.specs.Prelude.{◌≡◌, true, false, is_some, Some, MatchOption, MatchResult};
 ghost use Rattle.calls.specs.declared.fault.Fault.TheVariants.{LockInTheWay};
 ghost use Rattle.pool.specs.Masks.{has_other, with_seat};
 ghost use Rattle.pool.specs.Locks.{is_lock, by_writer, with_lock, share, claim};
 
+use crate::seat::Seat;
 use crate::table::Row;
 use calls::fault::Fault;
 
@@ -35,79 +36,62 @@ impl Lock {
         Row {
             writer: self.writer,
             readers: self.readers,
-            voted: row.voted,
-            against: row.against,
+            ..row
         }
     }
 
     // Shared with the seat for reading, unless another seat writes.
-    fn shared(self, seat: usize) -> Result<Lock, Fault>
-        requires { seat < 16 }
-        ensures { MatchResult result (λ l. (l.writer ≡ self.writer) × (l.readers ≡ by_writer self.writer seat self.readers self.readers (with_seat self.readers seat)) × (by_writer self.writer seat true false true ≡ true)) (λ f. (f ≡ LockInTheWay) × (by_writer self.writer seat true false true ≡ false)) }
+    fn shared(self, seat: Seat) -> Result<Lock, Fault>
+        ensures { MatchResult result (λ l. (l.writer ≡ self.writer) × (l.readers ≡ by_writer self.writer seat.number self.readers self.readers (with_seat self.readers seat.number)) × (by_writer self.writer seat.number true false true ≡ true)) (λ f. (f ≡ LockInTheWay) × (by_writer self.writer seat.number true false true ≡ false)) }
     {
         match self.writer {
-            Some(writer) => {
-                if usize::from(writer) == seat {
-                    Ok(self)
-                } else {
-                    Err(Fault::LockInTheWay)
-                }
-            }
             None => Ok(Lock {
                 writer: None,
-                readers: self.readers | 1 << seat,
+                readers: seat.added_to(self.readers),
             }),
+            Some(writer) if writer == seat.number() => Ok(self),
+            Some(_) => Err(Fault::LockInTheWay),
         }
     }
 
     // Whether another seat holds it.
-    fn held_by_others(self, seat: usize) -> bool
-        requires { seat < 16 }
-        ensures { result ≡ by_writer self.writer seat false true (has_other self.readers seat) }
+    fn is_held_by_another(self, seat: Seat) -> bool
+        ensures { result ≡ by_writer self.writer seat.number false true (has_other self.readers seat.number) }
     {
         match self.writer {
-            Some(writer) => usize::from(writer) != seat,
-            None => self.readers | 1 << seat != 1 << seat,
+            None => seat.added_to(self.readers) != seat.bit(),
+            Some(writer) => writer != seat.number(),
         }
     }
 
-    fn written_by(seat: usize) -> Lock
-        requires { seat < 16 }
-        ensures { (result.writer ≡ Some seat) × (result.readers ≡ 0) }
+    fn written_by(seat: Seat) -> Lock
+        ensures writer { result.writer ≡ Some seat.number }
+        ensures readers { result.readers ≡ 0 }
     {
         Lock {
-            writer: Some(seat as u8),
+            writer: Some(seat.number()),
             readers: 0,
         }
     }
 }
 
-// The row with its lock shared with the seat for reading.
-pub(crate) fn shared(row: Row, seat: usize) -> Result<Row, Fault>
-    requires { seat < 16 }
-    ensures { result ≡ share row seat }
-{
-    match Lock::of(row) {
-        Some(lock) => match lock.shared(seat) {
-            Ok(lock) => Ok(lock.put(row)),
-            Err(fault) => Err(fault),
-        },
-        None => Err(Fault::LockInTheWay),
+impl Row {
+    // The row with its lock shared with the seat for reading.
+    pub(crate) fn shared(self, seat: Seat) -> Result<Row, Fault>
+        ensures { result ≡ share self seat.number }
+    {
+        let lock = Lock::of(self).ok_or(Fault::LockInTheWay)?;
+        Ok(lock.shared(seat)?.put(self))
     }
-}
 
-// The row with its lock claimed by the seat for writing.
-pub(crate) fn claimed(row: Row, seat: usize) -> Result<Row, Fault>
-    requires { seat < 16 }
-    ensures { result ≡ claim row seat }
-{
-    match Lock::of(row) {
-        Some(lock) => {
-            if lock.held_by_others(seat) {
-                return Err(Fault::LockInTheWay);
-            }
-            Ok(Lock::written_by(seat).put(row))
+    // The row with its lock claimed by the seat for writing.
+    pub(crate) fn claimed(self, seat: Seat) -> Result<Row, Fault>
+        ensures { result ≡ claim self seat.number }
+    {
+        let lock = Lock::of(self).ok_or(Fault::LockInTheWay)?;
+        if lock.is_held_by_another(seat) {
+            return Err(Fault::LockInTheWay);
         }
-        None => Err(Fault::LockInTheWay),
+        Ok(Lock::written_by(seat).put(self))
     }
 }

@@ -1,16 +1,16 @@
-ghost use Rattle.std.specs.Prelude.{◌≡◌, true, false, ◌&&◌, MatchOption, nat_lt};
+ghost use Rattle.std.specs.Prelude.{◌≡◌, ◌<◌, true, false, ◌&&◌, Ok, Err, MatchOption, MatchResult, nat_lt};
 ghost use Rattle.pool.specs.Masks.{has};
 ghost use Rattle.pool.specs.Locks.{holds};
-ghost use Rattle.pool.specs.Checks.{has_seat};
+ghost use Rattle.pool.specs.Checks.{has_seat, passed};
 ghost use Rattle.pool.specs.Tables.{fresh, place_at, row_at};
-ghost use Rattle.pool.specs.Calls.{open_pool, begin, read, write, prepare, vote, decide, abort, finish, close, last_value, staged_value};
+ghost use Rattle.pool.specs.Calls.{open_pool, begin, read, write, prepare, vote, decide, abort, finish, close, only_steps, inside, last_value, staged_value};
+ghost use Rattle.pool.specs.Scans.{withdrawn};
 ghost use Rattle.pool.specs.Pools.{at, Makes};
+ghost use Rattle.store.specs.Meaning.{writing};
 
-use crate::checks::check;
-use crate::lock::{claimed, shared};
-use crate::scans::{Question, any, withdraw_all};
-use crate::table::{Place, Row, Table};
-use crate::votes::{has_seat, holds, released, voted, writes};
+use crate::checks::{Turn, check};
+use crate::seat::Seat;
+use crate::table::{Place, Table};
 use calls::answer::Decision;
 use calls::fault::Fault;
 use calls::state::{State, Step};
@@ -28,26 +28,6 @@ pub struct Pool<S, R> {
     table: Table,
 }
 
-fn fresh_table(seats: usize) -> Table
-    ensures { result ≡ fresh seats }
-{
-    let idle = Place {
-        state: State::Idle,
-        serial: 0,
-    };
-    let unlocked = Row {
-        writer: None,
-        readers: 0,
-        voted: 0,
-        against: 0,
-    };
-    Table {
-        seats,
-        places: [idle; 16],
-        rows: [unlocked; 64],
-    }
-}
-
 impl<S: WritingStore, R: HouseRule> Pool<S, R> {
     // A pool with no seat: it refuses every call until it is opened.
     pub fn new(store: S, rule: R) -> Pool<S, R>
@@ -56,7 +36,7 @@ impl<S: WritingStore, R: HouseRule> Pool<S, R> {
         Pool {
             store,
             rule,
-            table: fresh_table(0),
+            table: Table::fresh(0),
         }
     }
 
@@ -71,25 +51,22 @@ impl<S: WritingStore, R: HouseRule> Pool<S, R> {
     pub fn place(&self, seat: usize) -> Option<Place>
         ensures { MatchOption result (has_seat self.now.table seat ≡ false) (λ x. (has_seat self.now.table seat ≡ true) × (x ≡ place_at self.now.table seat)) }
     {
-        // the table has room for sixteen seats, whatever their number
-        if seat >= self.table.seats || seat >= 16 {
-            return None;
-        }
-        Some(self.table.places[seat])
+        let seat = self.table.seat(seat)?;
+        Some(self.table.places[seat.index()])
     }
 
     // Whether the seat holds the lock of the entry.
     pub fn holds(&self, seat: usize, entry: usize) -> bool
         ensures { result ≡ (nat_lt seat 16 && nat_lt entry 64 && holds (row_at self.now.table entry) seat) }
     {
-        seat < 16 && entry < 64 && holds(self.table.rows[entry], seat)
+        Seat::of(seat).is_some_and(|seat| entry < 64 && self.table.rows[entry].is_held_by(seat))
     }
 
     // Whether the seat has voted on the entry.
     pub fn has_voted(&self, seat: usize, entry: usize) -> bool
         ensures { result ≡ (nat_lt seat 16 && nat_lt entry 64 && has (row_at self.now.table entry).voted seat) }
     {
-        seat < 16 && entry < 64 && has_seat(self.table.rows[entry].voted, seat)
+        Seat::of(seat).is_some_and(|seat| entry < 64 && self.table.rows[entry].has_vote_of(seat))
     }
 
     // Withdraws all that is staged, keeps the chains and sets every seat idle with serial 0.
@@ -100,19 +77,19 @@ impl<S: WritingStore, R: HouseRule> Pool<S, R> {
             return Err(Fault::CannotOpen);
         }
         withdraw_all(&mut self.store);
-        self.table = fresh_table(seats);
+        self.table = Table::fresh(seats);
         Ok(())
     }
 
     pub fn begin(&mut self, seat: usize) -> Result<u32, Fault>
         ensures { Makes S.ReadingStore.reading S.WritingStore.staged self.old (λ s. begin s seat) result self.new }
     {
-        let next = check(&self.table, Step::Begin, seat, true)?;
-        let serial = self.table.places[seat].serial;
+        let Turn { seat, next } = check(&self.table, Step::Begin, seat, true)?;
+        let Place { serial, .. } = self.table.places[seat.index()];
         if serial >= 1_000_000 {
             return Err(Fault::SerialsUsedUp);
         }
-        self.table.places[seat] = Place {
+        self.table.places[seat.index()] = Place {
             state: next,
             serial: serial + 1,
         };
@@ -122,9 +99,9 @@ impl<S: WritingStore, R: HouseRule> Pool<S, R> {
     pub fn read(&mut self, seat: usize, entry: usize) -> Result<i64, Fault>
         ensures { Makes S.ReadingStore.reading S.WritingStore.staged self.old (λ s. read s seat entry) result self.new }
     {
-        check(&self.table, Step::Read, seat, entry < self.store.entries())?;
-        let row = shared(self.table.rows[entry], seat)?;
-        let value = if writes(row, seat) {
+        let seat = self.check_at(Step::Read, seat, entry)?.seat;
+        let row = self.table.rows[entry].shared(seat)?;
+        let value = if row.is_written_by(seat) {
             self.staged_version(entry).value
         } else {
             last_version(&self.store, entry).value
@@ -136,12 +113,12 @@ impl<S: WritingStore, R: HouseRule> Pool<S, R> {
     pub fn write(&mut self, seat: usize, entry: usize, value: i64) -> Result<(), Fault>
         ensures { Makes S.ReadingStore.reading S.WritingStore.staged self.old (λ s. write s seat entry value) result self.new }
     {
-        check(&self.table, Step::Write, seat, entry < self.store.entries())?;
-        let row = claimed(self.table.rows[entry], seat)?;
+        let seat = self.check_at(Step::Write, seat, entry)?.seat;
+        let row = self.table.rows[entry].claimed(seat)?;
         let version = Version {
             value,
-            seat: seat as u8,
-            serial: self.table.places[seat].serial,
+            seat: seat.number(),
+            serial: self.table.places[seat.index()].serial,
         };
         self.store.stage(entry, version)?;
         self.table.rows[entry] = row;
@@ -151,92 +128,97 @@ impl<S: WritingStore, R: HouseRule> Pool<S, R> {
     pub fn prepare(&mut self, seat: usize) -> Result<(), Fault>
         ensures { Makes S.ReadingStore.reading S.WritingStore.staged self.old (λ s. prepare s seat) result self.new }
     {
-        let next = check(&self.table, Step::Prepare, seat, true)?;
-        self.table.places[seat].state = next;
-        Ok(())
+        self.step(Step::Prepare, seat)
     }
 
     pub fn vote(&mut self, seat: usize, entry: usize) -> Result<bool, Fault>
         ensures { Makes S.ReadingStore.reading S.WritingStore.staged self.old (λ s. vote (R.HouseRule.allowed self.old.rule) s seat entry) result self.new }
     {
-        check(&self.table, Step::Vote, seat, entry < self.store.entries())?;
+        let seat = self.check_at(Step::Vote, seat, entry)?.seat;
         let row = self.table.rows[entry];
-        if !holds(row, seat) {
+        if !row.is_held_by(seat) {
             return Err(Fault::NoLock);
         }
-        if has_seat(row.voted, seat) {
+        if row.has_vote_of(seat) {
             return Err(Fault::VotedAlready);
         }
-        let yes = !writes(row, seat) || self.rule_allows_staged(entry);
-        self.table.rows[entry] = voted(row, seat, yes);
+        let yes = !row.is_written_by(seat) || self.rule_allows_staged(entry);
+        self.table.rows[entry] = row.voted(seat, yes);
         Ok(yes)
     }
 
     pub fn decide(&mut self, seat: usize) -> Result<Decision, Fault>
         ensures { Makes S.ReadingStore.reading S.WritingStore.staged self.old (λ s. decide s seat) result self.new }
     {
-        let next = check(&self.table, Step::Decide, seat, true)?;
-        if any(&self.table.rows, Question::VotedNo, seat) {
-            self.table.places[seat].state = State::Abort;
+        let Turn { seat, next } = check(&self.table, Step::Decide, seat, true)?;
+        if self.table.has_no_of(seat) {
+            self.table.places[seat.index()].state = State::Abort;
             return Ok(Decision::Abort);
         }
-        if any(&self.table.rows, Question::VoteMissing, seat) {
+        if self.table.lacks_vote_of(seat) {
             return Err(Fault::VotesMissing);
         }
-        self.table.places[seat].state = next;
+        self.table.places[seat.index()].state = next;
         Ok(Decision::Commit)
     }
 
     pub fn abort(&mut self, seat: usize) -> Result<(), Fault>
         ensures { Makes S.ReadingStore.reading S.WritingStore.staged self.old (λ s. abort s seat) result self.new }
     {
-        let next = check(&self.table, Step::Abort, seat, true)?;
-        self.table.places[seat].state = next;
-        Ok(())
+        self.step(Step::Abort, seat)
     }
 
     pub fn finish(&mut self, seat: usize, entry: usize) -> Result<(), Fault>
         ensures { Makes S.ReadingStore.reading S.WritingStore.staged self.old (λ s. finish s seat entry) result self.new }
     {
-        let next = check(
-            &self.table,
-            Step::Finish,
-            seat,
-            entry < self.store.entries(),
-        )?;
+        let Turn { seat, next } = self.check_at(Step::Finish, seat, entry)?;
         let row = self.table.rows[entry];
-        if !holds(row, seat) {
+        if !row.is_held_by(seat) {
             return Err(Fault::NoLock);
         }
-        if writes(row, seat) {
+        if row.is_written_by(seat) {
             match next {
                 State::Commit => self.store.publish(entry)?,
                 _ => self.store.withdraw(entry)?,
             }
         }
-        self.table.rows[entry] = released(row, seat);
+        self.table.rows[entry] = row.released(seat);
         Ok(())
     }
 
     pub fn close(&mut self, seat: usize) -> Result<(), Fault>
         ensures { Makes S.ReadingStore.reading S.WritingStore.staged self.old (λ s. close s seat) result self.new }
     {
-        let next = check(&self.table, Step::Close, seat, true)?;
-        if any(&self.table.rows, Question::Held, seat) {
+        let Turn { seat, next } = check(&self.table, Step::Close, seat, true)?;
+        if self.table.has_lock_of(seat) {
             return Err(Fault::LocksRemain);
         }
-        self.table.places[seat].state = next;
+        self.table.places[seat.index()].state = next;
         Ok(())
     }
 
+    // A call that only leads to another state.
+    fn step(&mut self, step: Step, seat: usize) -> Result<(), Fault>
+        ensures { Makes S.ReadingStore.reading S.WritingStore.staged self.old (λ s. only_steps step s seat) result self.new }
+    {
+        let Turn { seat, next } = check(&self.table, step, seat, true)?;
+        self.table.places[seat.index()].state = next;
+        Ok(())
+    }
+
+    // The checks of a call on an entry.
+    fn check_at(&self, step: Step, seat: usize, entry: usize) -> Result<Turn, Fault>
+        ensures { MatchResult result (λ turn. (passed self.now.table step seat (inside (at S.ReadingStore.reading S.WritingStore.staged self.now) entry) ≡ Ok turn.next) × (turn.seat.number ≡ seat) × (entry < (S.ReadingStore.reading self.now.store).entries)) (λ fault. passed self.now.table step seat (inside (at S.ReadingStore.reading S.WritingStore.staged self.now) entry) ≡ Err fault) }
+    {
+        check(&self.table, step, seat, entry < self.store.entries())
+    }
     // The staged version of an entry, or its last where none is staged.
     fn staged_version(&self, entry: usize) -> Version
         ensures { result.value ≡ staged_value (at S.ReadingStore.reading S.WritingStore.staged self.now) entry }
     {
-        match self.store.staged_at(entry) {
-            Some(version) => version,
-            None => last_version(&self.store, entry),
-        }
+        self.store
+            .staged_at(entry)
+            .unwrap_or_else(|| last_version(&self.store, entry))
     }
 
     fn rule_allows_staged(&self, entry: usize) -> bool
@@ -245,5 +227,15 @@ impl<S: WritingStore, R: HouseRule> Pool<S, R> {
         let last = last_version(&self.store, entry);
         let staged = self.staged_version(entry);
         self.rule.allows(entry, last.value, staged.value)
+    }
+}
+
+// Withdraws all that is staged.
+fn withdraw_all<S: WritingStore>(store: &mut S)
+    ensures { writing S.ReadingStore.reading S.WritingStore.staged store.new ≡ withdrawn (writing S.ReadingStore.reading S.WritingStore.staged store.old) (S.ReadingStore.reading store.old).entries }
+{
+    for e in 0..store.entries() {
+        // where nothing is staged there is nothing to withdraw
+        let _ = store.withdraw(e);
     }
 }

@@ -1,3 +1,10 @@
+ghost use Rattle.std.specs.Prelude.{◌≡◌, true, false, MatchOption};
+ghost use Rattle.std.specs.List.{list_any};
+ghost use Rattle.pool.specs.Checks.{has_seat};
+ghost use Rattle.pool.specs.Scans.{voted_no, held, lacks_vote};
+ghost use Rattle.pool.specs.Tables.{fresh};
+
+use crate::seat::Seat;
 use calls::state::State;
 
 // What the pool keeps of a seat.
@@ -16,10 +23,66 @@ pub struct Row {
     pub against: u16,
 }
 
-// The inner table. A pool that is not open has no seats.
+// The inner table. A pool that is not open has no seats. The memory is fixed, so that opening cannot run out of it:
+// the number of seats stands beside room for sixteen.
 #[derive(Clone, Copy)]
 pub struct Table {
     pub seats: usize,
     pub places: [Place; 16],
     pub rows: [Row; 64],
+}
+
+impl Table {
+    // Every seat idle with serial 0, and no entry locked.
+    pub(crate) fn fresh(seats: usize) -> Table
+        ensures { result ≡ fresh seats }
+    {
+        let idle = Place {
+            state: State::Idle,
+            serial: 0,
+        };
+        let unlocked = Row {
+            writer: None,
+            readers: 0,
+            voted: 0,
+            against: 0,
+        };
+        Table {
+            seats,
+            places: [idle; 16],
+            rows: [unlocked; 64],
+        }
+    }
+
+    // The seat of this number, where the pool has it.
+    pub(crate) fn seat(&self, number: usize) -> Option<Seat>
+        ensures { MatchOption result (has_seat self.now number ≡ false) (λ seat. (has_seat self.now number ≡ true) × (seat.number ≡ number)) }
+    {
+        if number < self.seats {
+            Seat::of(number)
+        } else {
+            None
+        }
+    }
+
+    // Whether the seat has voted no on some entry.
+    pub(crate) fn has_no_of(&self, seat: Seat) -> bool
+        ensures { result ≡ list_any (voted_no seat.number) self.now.rows }
+    {
+        self.rows.iter().any(|row| row.has_no_of(seat))
+    }
+
+    // Whether it holds an entry that it has not voted on.
+    pub(crate) fn lacks_vote_of(&self, seat: Seat) -> bool
+        ensures { result ≡ list_any (lacks_vote seat.number) self.now.rows }
+    {
+        self.rows.iter().any(|row| row.lacks_vote_of(seat))
+    }
+
+    // Whether it holds some entry.
+    pub(crate) fn has_lock_of(&self, seat: Seat) -> bool
+        ensures { result ≡ list_any (held seat.number) self.now.rows }
+    {
+        self.rows.iter().any(|row| row.is_held_by(seat))
+    }
 }

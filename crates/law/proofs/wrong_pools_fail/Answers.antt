@@ -1,5 +1,6 @@
-use Rattle.std.proofs.Common.{◌≡◌, ℕ, true, false, List, length, pos, negsuc, refl, ap, arith}
-use Rattle.calls.specs.declared.answer.Answer.TheVariants.{Value}
+use Rattle.std.proofs.Common.{◌≡◌, ℕ, true, false, List, length, pos, negsuc, Ok, refl, ap, arith}
+use Rattle.calls.specs.declared.answer.Reply.TheVariants.{Value}
+use Rattle.calls.specs.Answers.{Answer}
 use Rattle.store.specs.declared.version.Version.{Version}
 use Rattle.law.specs.Histories.{same}
 use Rattle.law.proofs.wrong_pools_fail.Goals as goal
@@ -9,7 +10,7 @@ unfolding same
 returns c =
     record {
       stale = λ allows stored holds a.
-          let q : Value (pos 0) ≡ Value (negsuc 2999999) = a.reads.1.0 1 1 refl refl in
+          let q : ◌≡◌ {A = Answer} (Ok (Value (pos 0))) (Ok (Value (negsuc 2999999))) = a.reads.1.0 1 1 refl refl in
           let z : ◌≡◌ {A = ℕ} 0 1 = cc in omega arith;
       unstored = λ allows holds a. let q : ◌≡◌ {A = ℕ} 1 2 = ap (λ (l : List Version). length l) (a.chains 1) in omega arith;
       unruled = λ stored holds a.

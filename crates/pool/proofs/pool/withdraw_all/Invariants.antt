@@ -1,7 +1,7 @@
 use Rattle.std.proofs.Common.{◌≡◌}
 use Rattle.store.specs.Meaning.{writing}
 use Rattle.pool.specs.Scans.{withdrawn}
-use Rattle.pool.proofs.scans.withdraw_all.Given as goal
+use Rattle.pool.proofs.pool.withdraw_all.Given as goal
 
 abbrev pub invariant-loop-e : goal.invariant-loop-e
 invariant-loop-e g l =

@@ -2,7 +2,7 @@ use Rattle.std.proofs.Common.{sym, ap, ◌∙◌, add-one}
 use Rattle.store.specs.Meaning.{writing}
 use Rattle.store.specs.Steps.{withdraw_after}
 use Rattle.pool.specs.Scans.{withdrawn}
-use Rattle.pool.proofs.scans.withdraw_all.Goals as goal
+use Rattle.pool.proofs.pool.withdraw_all.Goals as goal
 
 pub loop-e-preserved : goal.loop-e-preserved
 loop-e-preserved g c =
