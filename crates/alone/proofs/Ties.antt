@@ -19,7 +19,7 @@ use Rattle.pool.specs.Masks.{has, with_seat, without_seat}
 use Rattle.pool.specs.Tables.{Moment, place_at, row_at, idle, unlocked, with_place, with_row, with_state, with_store}
 use Rattle.pool.specs.Checks.{passed}
 use Rattle.pool.specs.Locks as L
-use Rattle.pool.specs.Scans.{voted_no, held, lacks_vote}
+use Rattle.pool.specs.Scans.{voted_no, is_holder, lacks_vote}
 use Rattle.pool.specs.Calls.{Rule, Done, done, then, after, inside, begin, read, write, prepare, vote, decide, abort, finish, close, last_value, says, up, spent, version_by}
 use Rattle.law.specs.Histories.{Line, same}
 use Rattle.law.specs.OneByOne.{Chains}
@@ -147,13 +147,13 @@ module _ (allows : Rule) (o : Chains) (s : Moment) (h : List Line) (i : Inv allo
   pub close_tied : (p : ℕ) → Tied (C.Close p) (λ _. A.Done) (close s p)
   close_tied p =
       by_result (C.Close p) (λ _. A.Done) (passed s.table S.Close p true) _ (λ q e.
-      by_test (C.Close p) (λ _. A.Done) (list_any (held p) s.table.rows) _ _
+      by_test (C.Close p) (λ _. A.Done) (list_any (is_holder p) s.table.rows) _ _
       (λ _. refused {T = Unit {0}} (C.Close p) (λ _. A.Done) LocksRemain)
       (λ f.
       let k = passed_ok s.table S.Close p true q e in
       let m = next_close (place_at s.table p).state q k.2 in (
         alike allows o _ (with_phase (view s) p q) _ (moved p q k.0)
-            (rw m.1 (close_step allows o (view s) h i p k.0 m.0 (λ y. sym (holds_as y p) ∙ none_row (held p) unlocked refl s.table.rows f y))),
+            (rw m.1 (close_step allows o (view s) h i p k.0 m.0 (λ y. sym (holds_as y p) ∙ none_row (is_holder p) unlocked refl s.table.rows f y))),
         placed p _,
       )))
 

@@ -17,7 +17,7 @@ pub use Rattle.rules.specs.House.{Rule}
 use Rattle.pool.specs.Checks.{passed}
 use Rattle.pool.specs.Masks.{has}
 use Rattle.pool.specs.Locks.{share, claim, release, holds, writes, with_vote}
-use Rattle.pool.specs.Scans.{voted_no, held, lacks_vote, withdrawn}
+use Rattle.pool.specs.Scans.{voted_no, is_holder, lacks_vote, withdrawn}
 use Rattle.pool.specs.Tables.{Moment, fresh, moment, place_at, row_at, with_row, with_place, with_state, with_store}
 
 -- an accepted call: its answer, and what it leaves
@@ -142,7 +142,7 @@ finish s p e =
 abbrev pub close : Moment → ℕ → Result (Done (Unit {0})) Fault
 close s p =
     then (passed s.table S.Close p true) (λ q.
-    cond (list_any (held p) s.table.rows) (Err LocksRemain) (Ok (done tt (with_state s p q))))
+    cond (list_any (is_holder p) s.table.rows) (Err LocksRemain) (Ok (done tt (with_state s p q))))
 
 -- opening keeps the chains, and sets every seat idle with serial 0
 abbrev pub open_pool : Moment → ℕ → Result (Done (Unit {0})) Fault

@@ -11,8 +11,8 @@ abbrev pub voted_no : ℕ → Row → Bool
 voted_no p r = has r.against p
 
 -- it holds it
-abbrev pub held : ℕ → Row → Bool
-held p r = holds r p
+abbrev pub is_holder : ℕ → Row → Bool
+is_holder p r = holds r p
 
 -- and has not voted
 abbrev pub lacks_vote : ℕ → Row → Bool

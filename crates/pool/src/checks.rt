@@ -22,6 +22,6 @@ pub(crate) fn check(table: &Table, step: Step, seat: usize, is_entry: bool) -> R
     if !is_entry {
         return Err(Fault::Store(Refusal::NoSuchEntry));
     }
-    let next = next_state(step, table.places[seat.index()].state).ok_or(Fault::WrongState)?;
+    let next = next_state(step, table.places[seat.number].state).ok_or(Fault::WrongState)?;
     Ok(Turn { seat, next })
 }

@@ -49,7 +49,7 @@ impl Lock {
                 writer: None,
                 readers: seat.added_to(self.readers),
             }),
-            Some(writer) if writer == seat.number() => Ok(self),
+            Some(writer) if writer == seat.byte() => Ok(self),
             Some(_) => Err(Fault::LockInTheWay),
         }
     }
@@ -60,7 +60,7 @@ impl Lock {
     {
         match self.writer {
             None => seat.added_to(self.readers) != seat.bit(),
-            Some(writer) => writer != seat.number(),
+            Some(writer) => writer != seat.byte(),
         }
     }
 
@@ -69,7 +69,7 @@ impl Lock {
         ensures readers { result.readers ≡ 0 }
     {
         Lock {
-            writer: Some(seat.number()),
+            writer: Some(seat.byte()),
             readers: 0,
         }
     }

@@ -52,7 +52,7 @@ impl<S: WritingStore, R: HouseRule> Pool<S, R> {
         ensures { MatchOption result (has_seat self.now.table seat ≡ false) (λ x. (has_seat self.now.table seat ≡ true) × (x ≡ place_at self.now.table seat)) }
     {
         let seat = self.table.seat(seat)?;
-        Some(self.table.places[seat.index()])
+        Some(self.table.places[seat.number])
     }
 
     // Whether the seat holds the lock of the entry.
@@ -85,11 +85,11 @@ impl<S: WritingStore, R: HouseRule> Pool<S, R> {
         ensures { Makes S.ReadingStore.reading S.WritingStore.staged self.old (λ s. begin s seat) result self.new }
     {
         let Turn { seat, next } = check(&self.table, Step::Begin, seat, true)?;
-        let Place { serial, .. } = self.table.places[seat.index()];
+        let Place { serial, .. } = self.table.places[seat.number];
         if serial >= 1_000_000 {
             return Err(Fault::SerialsUsedUp);
         }
-        self.table.places[seat.index()] = Place {
+        self.table.places[seat.number] = Place {
             state: next,
             serial: serial + 1,
         };
@@ -117,8 +117,8 @@ impl<S: WritingStore, R: HouseRule> Pool<S, R> {
         let row = self.table.rows[entry].claimed(seat)?;
         let version = Version {
             value,
-            seat: seat.number(),
-            serial: self.table.places[seat.index()].serial,
+            seat: seat.byte(),
+            serial: self.table.places[seat.number].serial,
         };
         self.store.stage(entry, version)?;
         self.table.rows[entry] = row;
@@ -152,13 +152,13 @@ impl<S: WritingStore, R: HouseRule> Pool<S, R> {
     {
         let Turn { seat, next } = check(&self.table, Step::Decide, seat, true)?;
         if self.table.has_no_of(seat) {
-            self.table.places[seat.index()].state = State::Abort;
+            self.table.places[seat.number].state = State::Abort;
             return Ok(Decision::Abort);
         }
         if self.table.lacks_vote_of(seat) {
             return Err(Fault::VotesMissing);
         }
-        self.table.places[seat.index()].state = next;
+        self.table.places[seat.number].state = next;
         Ok(Decision::Commit)
     }
 
@@ -193,7 +193,7 @@ impl<S: WritingStore, R: HouseRule> Pool<S, R> {
         if self.table.has_lock_of(seat) {
             return Err(Fault::LocksRemain);
         }
-        self.table.places[seat.index()].state = next;
+        self.table.places[seat.number].state = next;
         Ok(())
     }
 
@@ -202,7 +202,7 @@ impl<S: WritingStore, R: HouseRule> Pool<S, R> {
         ensures { Makes S.ReadingStore.reading S.WritingStore.staged self.old (λ s. only_steps step s seat) result self.new }
     {
         let Turn { seat, next } = check(&self.table, step, seat, true)?;
-        self.table.places[seat.index()].state = next;
+        self.table.places[seat.number].state = next;
         Ok(())
     }
 

@@ -10,7 +10,7 @@ impl Row {
     pub(crate) fn is_written_by(self, seat: Seat) -> bool
         ensures { result ≡ writes self seat.number }
     {
-        self.writer == Some(seat.number())
+        self.writer == Some(seat.byte())
     }
 
     // For writing or for reading.

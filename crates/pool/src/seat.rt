@@ -4,7 +4,7 @@ ghost use Rattle.pool.specs.Masks.{has, with_seat, without_seat};
 // A seat that a pool may have: below 16, so that it has a bit in a mask.
 #[derive(Clone, Copy)]
 pub struct Seat {
-    number: u8,
+    pub number: usize,
     ghost small: { number < 16 },
 }
 
@@ -14,24 +14,17 @@ impl Seat {
         ensures { MatchOption result (nat_lt number 16 ≡ false) (λ seat. (nat_lt number 16 ≡ true) × (seat.number ≡ number)) }
     {
         if number < 16 {
-            Some(Seat {
-                number: number as u8,
-            })
+            Some(Seat { number })
         } else {
             None
         }
     }
 
-    pub fn index(self) -> usize
+    // Its number, as versions and rows have it.
+    pub(crate) fn byte(self) -> u8
         ensures { result ≡ self.number }
     {
-        usize::from(self.number)
-    }
-
-    pub(crate) fn number(self) -> u8
-        ensures { result ≡ self.number }
-    {
-        self.number
+        self.number as u8
     }
 
     // The set of this seat alone, as a mask.

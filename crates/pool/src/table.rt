@@ -1,7 +1,7 @@
 ghost use Rattle.std.specs.Prelude.{◌≡◌, true, false, MatchOption};
 ghost use Rattle.std.specs.List.{list_any};
 ghost use Rattle.pool.specs.Checks.{has_seat};
-ghost use Rattle.pool.specs.Scans.{voted_no, held, lacks_vote};
+ghost use Rattle.pool.specs.Scans.{voted_no, is_holder, lacks_vote};
 ghost use Rattle.pool.specs.Tables.{fresh};
 
 use crate::seat::Seat;
@@ -81,7 +81,7 @@ impl Table {
 
     // Whether it holds some entry.
     pub(crate) fn has_lock_of(&self, seat: Seat) -> bool
-        ensures { result ≡ list_any (held seat.number) self.now.rows }
+        ensures { result ≡ list_any (is_holder seat.number) self.now.rows }
     {
         self.rows.iter().any(|row| row.is_held_by(seat))
     }

@@ -1,6 +1,7 @@
 -- On a pool that was opened and called, no call of a ticket is refused, and its seat is free afterwards.
 use Rattle.std.proofs.Common.{◌≡◌, ℕ, zero, suc, ◌<◌, ◌≤◌, Bool, true, false, cond, not, ◌&&◌, eqb, ltb, leb, List, [], ◌∷◌, length, get_or, set, replicate, ℤ, is_some, Some, None, Ok, Err, Option, Result, sym, refl, ap, ◌∙◌, subst, ⊎_elim, arith, get_or-set_other, get_or-set_same}
 use Rattle.std.proofs.lemmas.Bool.{and_parts, ltb-true, lt-ltb, not-true, cond-false, cases_eq, cases_lt, or_from, and_right}
+use Rattle.std.specs.List.{list_any}
 use Rattle.calls.specs.declared.call.Call.{Call}
 use Rattle.calls.specs.declared.call.Call.TheVariants as C
 use Rattle.calls.specs.declared.fault.Fault.{Fault}
@@ -14,15 +15,13 @@ use Rattle.store.specs.declared.refusal.Refusal.TheVariants.{NoSuchEntry}
 use Rattle.store.specs.declared.version.Version.{Version}
 use Rattle.store.specs.Meaning.{Writing}
 use Rattle.store.specs.Steps.{spend_answer, found, stage_answer}
-use Rattle.pool.specs.declared.scans.Question.{Question}
-use Rattle.pool.specs.declared.scans.Question.TheVariants.{VoteMissing, VotedNo, Held}
 use Rattle.pool.specs.declared.table.Place.{Place}
 use Rattle.pool.specs.declared.table.Row.{Row}
 use Rattle.pool.specs.declared.table.Table.{Table}
 use Rattle.pool.specs.Masks.{has}
 use Rattle.pool.specs.Locks.{holds, writes, by_writer, release, with_vote, share, claim}
 use Rattle.pool.specs.Checks.{passed, has_seat}
-use Rattle.pool.specs.Scans.{any_row, applies, withdrawn}
+use Rattle.pool.specs.Scans.{voted_no, is_holder, lacks_vote, withdrawn}
 use Rattle.pool.specs.Tables.{Moment, moment, fresh, place_at, row_at, idle, unlocked, with_state}
 use Rattle.pool.specs.Calls.{Rule, Done, done, then, answer, after, inside, up, version_by, says}
 use Rattle.law.specs.Histories.{Line}
@@ -89,7 +88,7 @@ call_past allows s (C.Finish p e) =
     (λ _. same_past s))
 call_past allows s (C.Close p) =
     by_result s (PastAs s) (same_past s) (passed s.table S.Close p true) _ (λ _ _.
-    by_test s (PastAs s) (same_past s) (any_row (applies Held p) s.table.rows) _ _ (λ _. same_past s) (λ _. same_past s))
+    by_test s (PastAs s) (same_past s) (list_any (is_holder p) s.table.rows) _ _ (λ _. same_past s) (λ _. same_past s))
 
 replicate_at : {A : Type 0} (x : A) (n i : ℕ) → get_or (replicate n x) i x ≡ x
 replicate_at x zero i = refl
@@ -136,9 +135,9 @@ passes : (t : Table) (step : Step) (p : ℕ) (b : Bool) (q : State) → has_seat
 passes t step p b q x y z = rw (x, y, z)
 
 -- no row passes a test that the row past the last does not pass either
-any_none : (f : Row → Bool) (d : Row) (rows : List Row) → ((k : ℕ) → f (get_or rows k d) ≡ false) → any_row f rows ≡ false
+any_none : (f : Row → Bool) (d : Row) (rows : List Row) → ((k : ℕ) → f (get_or rows k d) ≡ false) → list_any f rows ≡ false
 any_none f d [] h = refl
-any_none f d (r ∷ rows) h = cond-false (f r) true (any_row f rows) (h zero) ∙ any_none f d rows (λ k. h (suc k))
+any_none f d (r ∷ rows) h = rw (h zero) (any_none f d rows (λ k. h (suc k)))
 
 released_free : (r : Row) (p : ℕ) → p < 16 → holds (release r p) p ≡ false
 released_free r p l =
@@ -149,7 +148,7 @@ released_free r p l =
     go w true e = refl
     go w false e = e
 
-voted_done : (r : Row) (p : ℕ) (b : Bool) → p < 16 → applies VoteMissing p (with_vote r p b) ≡ false
+voted_done : (r : Row) (p : ℕ) (b : Bool) → p < 16 → lacks_vote p (with_vote r p b) ≡ false
 voted_done r p b l =
     and_right (holds r p) (not (has (with_vote r p b).voted p))
     (ap not (seat_added r.voted p p l l ∙ ap (λ (t : Bool). cond t true (has r.voted p)) (same_refl p)))
@@ -182,34 +181,34 @@ module _ (allows : Rule) (before : Moment) (seats : ℕ) (few : before.store.rea
       Been m × (m.table.seats ≡ s.table.seats) × (m.table.places ≡ s.table.places) × (m.store.reading.entries ≡ s.store.reading.entries)
 
   -- a call for each entry that a question applies to leaves no entry that it applies to
-  module _ (s : Moment) (q : Question) (call : ℕ → Call)
-      (step : (m : Moment) (k : ℕ) → k < s.store.reading.entries → Going s m → applies q p (row_at m.table k) ≡ true
-      → Going s (after_call allows m (call k)) × (applies q p (row_at (after_call allows m (call k)).table k) ≡ false))
+  module _ (s : Moment) (q : Row → Bool) (call : ℕ → Call)
+      (step : (m : Moment) (k : ℕ) → k < s.store.reading.entries → Going s m → q (row_at m.table k) ≡ true
+      → Going s (after_call allows m (call k)) × (q (row_at (after_call allows m (call k)).table k) ≡ false))
       (elsewhere : (m : Moment) (k j : ℕ) → (j ≡ k → ⊥) → RowAs m j (after_call allows m (call k))) where
     abbrev Through : ℕ → Moment → Type 0
-    Through n m = Going s m × ((k : ℕ) → k < n → applies q p (row_at m.table k) ≡ false) × ((k : ℕ) → n ≤ k → RowAs s k m)
+    Through n m = Going s m × ((k : ℕ) → k < n → q (row_at m.table k) ≡ false) × ((k : ℕ) → n ≤ k → RowAs s k m)
 
-    one_more : (n : ℕ) → n < s.store.reading.entries → (m : Moment) → Through n m → (b : Bool) → applies q p (row_at s.table n) ≡ b
+    one_more : (n : ℕ) → n < s.store.reading.entries → (m : Moment) → Through n m → (b : Bool) → q (row_at s.table n) ≡ b
         → Through (suc n) (after_calls allows m (cond b (call n ∷ []) []))
     one_more n l m t true e =
-        let made = step m n l t.0 (ap (applies q p) (t.2 n (omega arith)) ∙ e) in (
+        let made = step m n l t.0 (ap q (t.2 n (omega arith)) ∙ e) in (
           made.0,
           (λ k i. ⊎_elim
-              (λ x. subst (λ (j : ℕ). applies q p (row_at (after_call allows m (call n)).table j) ≡ false) (sym x) made.1)
-              (λ x. ap (applies q p) (elsewhere m n k x) ∙ t.1 k (omega (arith, x))) (cases_eq k n)),
+              (λ x. subst (λ (j : ℕ). q (row_at (after_call allows m (call n)).table j) ≡ false) (sym x) made.1)
+              (λ x. ap q (elsewhere m n k x) ∙ t.1 k (omega (arith, x))) (cases_eq k n)),
           (λ k i. elsewhere m n k (λ x. omega arith) ∙ t.2 k (omega arith)),
         )
     one_more n l m t false e = (
       t.0,
-      (λ k i. ⊎_elim (λ x. ap (λ (j : ℕ). applies q p (row_at m.table j)) x ∙ ap (applies q p) (t.2 n (omega arith)) ∙ e) (λ x. t.1 k (omega (arith, x))) (cases_eq k n)),
+      (λ k i. ⊎_elim (λ x. ap (λ (j : ℕ). q (row_at m.table j)) x ∙ ap q (t.2 n (omega arith)) ∙ e) (λ x. t.1 k (omega (arith, x))) (cases_eq k n)),
       (λ k i. t.2 k (omega arith)),
     )
 
-    through : Been s → (n : ℕ) → n ≤ s.store.reading.entries → Through n (after_calls allows s (each (λ k. applies q p (row_at s.table k)) call n))
+    through : Been s → (n : ℕ) → n ≤ s.store.reading.entries → Through n (after_calls allows s (each (λ k. q (row_at s.table k)) call n))
     through b zero l = ((b, refl, refl, refl), (λ k i. absurd (omega arith)), (λ k i. refl))
     through b (suc n) l =
-        subst (Through (suc n)) (sym (after-++ allows s (each (λ k. applies q p (row_at s.table k)) call n) (cond (applies q p (row_at s.table n)) (call n ∷ []) [])))
-        (one_more n (omega arith) _ (through b n (omega arith)) (applies q p (row_at s.table n)) refl)
+        subst (Through (suc n)) (sym (after-++ allows s (each (λ k. q (row_at s.table k)) call n) (cond (q (row_at s.table n)) (call n ∷ []) [])))
+        (one_more n (omega arith) _ (through b n (omega arith)) (q (row_at s.table n)) refl)
 
   module _ (s : Moment) (seat : has_seat s.table p ≡ true) where
     low : p < 16
@@ -228,26 +227,26 @@ module _ (allows : Rule) (before : Moment) (seats : ℕ) (few : before.store.rea
     row_inside m k l g = let z = sized m g.0 in omega (arith, z.rows, z.entries, g.3)
 
     -- what a call on an entry left, where it was accepted
-    abbrev Left : Moment → ℕ → Question → Moment → Type 0
+    abbrev Left : Moment → ℕ → (Row → Bool) → Moment → Type 0
     Left m k q n =
         (n.table.seats ≡ m.table.seats) × (n.table.places ≡ m.table.places) × (n.store.reading.entries ≡ m.store.reading.entries)
-        × (applies q p (row_at n.table k) ≡ false)
+        × (q (row_at n.table k) ≡ false)
 
-    left : (m n : Moment) (k : ℕ) (q : Question) → Going s m → Been n → Left m k q n → Going s n × (applies q p (row_at n.table k) ≡ false)
+    left : (m n : Moment) (k : ℕ) (q : Row → Bool) → Going s m → Been n → Left m k q n → Going s n × (q (row_at n.table k) ≡ false)
     left m n k q g b l = ((b, l.0 ∙ g.1, l.1 ∙ g.2, l.2 ∙ g.3), l.3)
 
-    vote_accepted : (place_at s.table p).state ≡ Voting → (m : Moment) (k : ℕ) → k < s.store.reading.entries → Going s m → applies VoteMissing p (row_at m.table k) ≡ true
-        → Left m k VoteMissing (after_call allows m (C.Vote p k))
+    vote_accepted : (place_at s.table p).state ≡ Voting → (m : Moment) (k : ℕ) → k < s.store.reading.entries → Going s m → lacks_vote p (row_at m.table k) ≡ true
+        → Left m k (lacks_vote p) (after_call allows m (C.Vote p k))
     vote_accepted v m k l g t =
         let parts = and_parts (holds (row_at m.table k) p) (not (has (row_at m.table k).voted p)) t in
-        passing m (Left m k VoteMissing) (passed m.table S.Vote p (inside m k)) _ Voting
+        passing m (Left m k (lacks_vote p)) (passed m.table S.Vote p (inside m k)) _ Voting
         (passes m.table S.Vote p (inside m k) Voting (seat_kept m g) (inside_kept m k l g) (ap (next S.Vote) (state_kept m g ∙ v)))
-        (holding m (Left m k VoteMissing) (holds (row_at m.table k) p) _ _ parts.0
-        (failing m (Left m k VoteMissing) (has (row_at m.table k).voted p) _ _ (not-true (has (row_at m.table k).voted p) parts.1) (
+        (holding m (Left m k (lacks_vote p)) (holds (row_at m.table k) p) _ _ parts.0
+        (failing m (Left m k (lacks_vote p)) (has (row_at m.table k).voted p) _ _ (not-true (has (row_at m.table k).voted p) parts.1) (
           refl,
           refl,
           refl,
-          ap (applies VoteMissing p) (get_or-set_same m.table.rows k (with_vote (row_at m.table k) p (says allows m p k)) unlocked (row_inside m k l g))
+          ap (lacks_vote p) (get_or-set_same m.table.rows k (with_vote (row_at m.table k) p (says allows m p k)) unlocked (row_inside m k l g))
               ∙ voted_done (row_at m.table k) p (says allows m p k) low,
         )))
 
@@ -259,62 +258,62 @@ module _ (allows : Rule) (before : Moment) (seats : ℕ) (few : before.store.rea
         ap up (ap (λ (b : Bool). cond b (found (m.store.staged k)) (Err NoSuchEntry)) (inside_kept m k l g)
         ∙ staged_there (m.store.staged k) _ p _ (and_parts _ _ (and_parts _ _ wrote).0).1 (cell.staging v))
 
-    finish_accepted : is_ruled (place_at s.table p).state ≡ true → (m : Moment) (k : ℕ) → k < s.store.reading.entries → Going s m → applies Held p (row_at m.table k) ≡ true
-        → Left m k Held (after_call allows m (C.Finish p k))
+    finish_accepted : is_ruled (place_at s.table p).state ≡ true → (m : Moment) (k : ℕ) → k < s.store.reading.entries → Going s m → is_holder p (row_at m.table k) ≡ true
+        → Left m k (is_holder p) (after_call allows m (C.Finish p k))
     finish_accepted r m k l g t =
         let ruled : is_ruled (place_at m.table p).state ≡ true = ap is_ruled (state_kept m g) ∙ r in
-        let let_go : applies Held p (get_or (set m.table.rows k (release (row_at m.table k) p)) k unlocked) ≡ false
-        = ap (applies Held p) (get_or-set_same m.table.rows k (release (row_at m.table k) p) unlocked (row_inside m k l g)) ∙ released_free (row_at m.table k) p low in
-        passing m (Left m k Held) (passed m.table S.Finish p (inside m k)) _ (place_at m.table p).state
+        let let_go : is_holder p (get_or (set m.table.rows k (release (row_at m.table k) p)) k unlocked) ≡ false
+        = ap (is_holder p) (get_or-set_same m.table.rows k (release (row_at m.table k) p) unlocked (row_inside m k l g)) ∙ released_free (row_at m.table k) p low in
+        passing m (Left m k (is_holder p)) (passed m.table S.Finish p (inside m k)) _ (place_at m.table p).state
         (passes m.table S.Finish p (inside m k) (place_at m.table p).state (seat_kept m g) (inside_kept m k l g) (finish_next (place_at m.table p).state ruled))
-        (holding m (Left m k Held) (holds (row_at m.table k) p) _ _ t
-        (either m (Left m k Held) (writes (row_at m.table k) p) _ _
+        (holding m (Left m k (is_holder p)) (holds (row_at m.table k) p) _ _ t
+        (either m (Left m k (is_holder p)) (writes (row_at m.table k) p) _ _
         (λ w. let ok = spend_accepted m k l g w in
-        passing m (Left m k Held) (up (spend_answer m.store k)) _ tt ok (refl, refl, spent_entries m.store k ok (place_at m.table p).state ruled, let_go))
+        passing m (Left m k (is_holder p)) (up (spend_answer m.store k)) _ tt ok (refl, refl, spent_entries m.store k ok (place_at m.table p).state ruled, let_go))
         (λ w. (refl, refl, refl, let_go))))
 
     state_set : Been s → (q : State) → (place_at (with_state s p q).table p).state ≡ q
     state_set b q = ap (λ (x : Place). x.state) (get_or-set_same s.table.places p _ idle (let z = sized s b in omega (arith, z.places, low)))
 
     -- a question that applies to no entry of the store applies to no row
-    nowhere : Been s → (q : Question) → applies q p unlocked ≡ false → (m : Moment) → ((k : ℕ) → k < s.store.reading.entries → applies q p (row_at m.table k) ≡ false)
-        → ((k : ℕ) → s.store.reading.entries ≤ k → RowAs s k m) → (k : ℕ) → applies q p (row_at m.table k) ≡ false
+    nowhere : Been s → (q : Row → Bool) → q unlocked ≡ false → (m : Moment) → ((k : ℕ) → k < s.store.reading.entries → q (row_at m.table k) ≡ false)
+        → ((k : ℕ) → s.store.reading.entries ≤ k → RowAs s k m) → (k : ℕ) → q (row_at m.table k) ≡ false
     nowhere b q u m f g k =
-        ⊎_elim (f k) (λ l. ap (applies q p) (g k l ∙ unused_past allows before seats b.1 k l) ∙ u) (cases_lt k s.store.reading.entries)
+        ⊎_elim (f k) (λ l. ap q (g k l ∙ unused_past allows before seats b.1 k l) ∙ u) (cases_lt k s.store.reading.entries)
 
   -- a decided edit, once its locks are finished and it is closed
   wound_up : (s : Moment) → has_seat s.table p ≡ true → Been s → is_ruled (place_at s.table p).state ≡ true → Free (after_calls allows s (wind_up s p)) p
   wound_up s seat b r =
       let x : Moment = after_calls allows s (finishes s p) in
-      let t = through s Held (λ k. C.Finish p k) (λ m k l g h. left s seat m _ k Held g (been_called m g.0 (C.Finish p k)) (finish_accepted s seat r m k l g h))
+      let t = through s (is_holder p) (λ k. C.Finish p k) (λ m k l g h. left s seat m _ k (is_holder p) g (been_called m g.0 (C.Finish p k)) (finish_accepted s seat r m k l g h))
       (λ m k j. finish_elsewhere allows m p k j) b s.store.reading.entries (omega arith) in
-      let unheld : (k : ℕ) → applies Held p (row_at x.table k) ≡ false = nowhere s seat b Held refl x t.1 t.2 in
+      let unheld : (k : ℕ) → is_holder p (row_at x.table k) ≡ false = nowhere s seat b (is_holder p) refl x t.1 t.2 in
       let there : has_seat x.table p ≡ true = seat_kept s seat x t.0 in
       subst (λ (m : Moment). Free m p) (sym (after-++ allows s (finishes s p) (C.Close p ∷ [])))
       (passing x (λ m. Free m p) (passed x.table S.Close p true) _ Idle
       (passes x.table S.Close p true Idle there refl (close_next (place_at x.table p).state (ap is_ruled (state_kept s seat x t.0) ∙ r)))
-      (failing x (λ m. Free m p) (any_row (applies Held p) x.table.rows) _ _ (any_none (applies Held p) unlocked x.table.rows unheld)
+      (failing x (λ m. Free m p) (list_any (is_holder p) x.table.rows) _ _ (any_none (is_holder p) unlocked x.table.rows unheld)
       (record { idle = state_set x there t.0.0 Idle; unlocked = unheld })))
 
   abbrev Decided : Moment → Type 0
   Decided m = (has_seat m.table p ≡ true) × (is_ruled (place_at m.table p).state ≡ true)
 
   -- an edit with every vote in is decided one way or the other
-  decide_accepted : (s : Moment) → has_seat s.table p ≡ true → Been s → (place_at s.table p).state ≡ Voting → ((k : ℕ) → applies VoteMissing p (row_at s.table k) ≡ false)
+  decide_accepted : (s : Moment) → has_seat s.table p ≡ true → Been s → (place_at s.table p).state ≡ Voting → ((k : ℕ) → lacks_vote p (row_at s.table k) ≡ false)
       → Decided (after_call allows s (C.Decide p))
   decide_accepted s seat b v f =
       passing s Decided (passed s.table S.Decide p true) _ Commit (passes s.table S.Decide p true Commit seat refl (ap (next S.Decide) v))
-      (either s Decided (any_row (applies VotedNo p) s.table.rows) _ _
+      (either s Decided (list_any (voted_no p) s.table.rows) _ _
       (λ _. (seat, ap is_ruled (state_set s seat b Abort)))
-      (λ _. failing s Decided (any_row (applies VoteMissing p) s.table.rows) _ _ (any_none (applies VoteMissing p) unlocked s.table.rows f) (seat, ap is_ruled (state_set s seat b Commit))))
+      (λ _. failing s Decided (list_any (lacks_vote p) s.table.rows) _ _ (any_none (lacks_vote p) unlocked s.table.rows f) (seat, ap is_ruled (state_set s seat b Commit))))
 
   concluded : (s : Moment) → has_seat s.table p ≡ true → Been s → (place_at s.table p).state ≡ Voting → Free (after_calls allows s (conclude s p)) p
   concluded s seat b v =
       let x : Moment = after_calls allows s (votes s p) in
       let y : Moment = after_call allows x (C.Decide p) in
-      let t = through s VoteMissing (λ k. C.Vote p k) (λ m k l g h. left s seat m _ k VoteMissing g (been_called m g.0 (C.Vote p k)) (vote_accepted s seat v m k l g h))
+      let t = through s (lacks_vote p) (λ k. C.Vote p k) (λ m k l g h. left s seat m _ k (lacks_vote p) g (been_called m g.0 (C.Vote p k)) (vote_accepted s seat v m k l g h))
       (λ m k j. vote_elsewhere allows m p k j) b s.store.reading.entries (omega arith) in
-      let d : Decided y = decide_accepted x (seat_kept s seat x t.0) t.0.0 (state_kept s seat x t.0 ∙ v) (nowhere s seat b VoteMissing refl x t.1 t.2) in
+      let d : Decided y = decide_accepted x (seat_kept s seat x t.0) t.0.0 (state_kept s seat x t.0 ∙ v) (nowhere s seat b (lacks_vote p) refl x t.1 t.2) in
       subst (λ (m : Moment). Free m p)
       (ap (after_calls allows y) (wind_up_beside x y p (decide_beside allows x p) ∙ wind_up_holding s x p (votes_holding allows s p))
       ∙ sym (after-++ allows s (votes s p) (C.Decide p ∷ wind_up s p)))

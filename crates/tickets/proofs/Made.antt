@@ -1,17 +1,16 @@
 -- Lists of calls made one after another, and what a call leaves of the other entries.
 use Rattle.std.proofs.Common.{◌≡◌, ℕ, zero, suc, ◌+◌, ◌≤◌, Bool, true, false, cond, List, [], ◌∷◌, ◌++◌, get_or, set, Ok, Err, Result, sym, refl, ap, ◌∙◌, subst, ap₂, add-one, arith, get_or-set_other}
+use Rattle.std.specs.List.{list_any}
 use Rattle.calls.specs.declared.call.Call.{Call}
 use Rattle.calls.specs.declared.call.Call.TheVariants as C
 use Rattle.calls.specs.declared.fault.Fault.{Fault}
 use Rattle.calls.specs.declared.state.Step.TheVariants as S
 use Rattle.store.specs.Meaning.{Writing}
-use Rattle.pool.specs.declared.scans.Question.{Question}
-use Rattle.pool.specs.declared.scans.Question.TheVariants.{VoteMissing, VotedNo, Held}
 use Rattle.pool.specs.declared.table.Row.{Row}
 use Rattle.pool.specs.Masks.{has}
 use Rattle.pool.specs.Locks.{holds, writes}
 use Rattle.pool.specs.Checks.{passed}
-use Rattle.pool.specs.Scans.{any_row, applies}
+use Rattle.pool.specs.Scans.{voted_no, is_holder, lacks_vote}
 use Rattle.pool.specs.Tables.{Moment, row_at, unlocked}
 use Rattle.pool.specs.Calls.{Rule, Done, then, after, inside, up}
 use Rattle.store.specs.Steps.{spend_answer}
@@ -92,22 +91,22 @@ finish_elsewhere allows s p e k apart =
 -- ------------------------------------------------------------ a loop over the entries
 
 -- the calls on the entries below n were made from s, and the rows from n on are as they were
-module _ (allows : Rule) (s : Moment) (p : ℕ) (q : Question) (call : ℕ → Call) (n : ℕ) (m : Moment)
-    (made : m ≡ after_calls allows s (each (λ k. applies q p (row_at s.table k)) call n))
+module _ (allows : Rule) (s : Moment) (q : Row → Bool) (call : ℕ → Call) (n : ℕ) (m : Moment)
+    (made : m ≡ after_calls allows s (each (λ k. q (row_at s.table k)) call n))
     (rows : (k : ℕ) → n ≤ k → RowAs s k m) where
-  pub more_made : (rule : Rule) (now : Moment) → rule ≡ allows → applies q p (row_at m.table n) ≡ true → now ≡ after_call rule m (call n)
+  pub more_made : (rule : Rule) (now : Moment) → rule ≡ allows → q (row_at m.table n) ≡ true → now ≡ after_call rule m (call n)
       → ((k : ℕ) → (k ≡ n → ⊥) → RowAs m k (after_call rule m (call n)))
-      → (now ≡ after_calls allows s (each (λ k. applies q p (row_at s.table k)) call (n + 1))) × ((k : ℕ) → n + 1 ≤ k → RowAs s k now)
+      → (now ≡ after_calls allows s (each (λ k. q (row_at s.table k)) call (n + 1))) × ((k : ℕ) → n + 1 ≤ k → RowAs s k now)
   more_made rule now same t e elsewhere = (
     e ∙ ap₂ (λ (f : Rule) (x : Moment). after_call f x (call n)) same made
-        ∙ sym (each_made allows s (λ k. applies q p (row_at s.table k)) call n (ap (applies q p) (sym (rows n (omega arith))) ∙ t)),
+        ∙ sym (each_made allows s (λ k. q (row_at s.table k)) call n (ap q (sym (rows n (omega arith))) ∙ t)),
     (λ k l. ap (λ (x : Moment). row_at x.table k) e ∙ elsewhere k (λ r. omega arith) ∙ rows k (omega arith)),
   )
 
-  pub more_passed : applies q p (row_at m.table n) ≡ false
-      → (m ≡ after_calls allows s (each (λ k. applies q p (row_at s.table k)) call (n + 1))) × ((k : ℕ) → n + 1 ≤ k → RowAs s k m)
+  pub more_passed : q (row_at m.table n) ≡ false
+      → (m ≡ after_calls allows s (each (λ k. q (row_at s.table k)) call (n + 1))) × ((k : ℕ) → n + 1 ≤ k → RowAs s k m)
   more_passed t = (
-    made ∙ sym (each_passed allows s (λ k. applies q p (row_at s.table k)) call n (ap (applies q p) (sym (rows n (omega arith))) ∙ t)),
+    made ∙ sym (each_passed allows s (λ k. q (row_at s.table k)) call n (ap q (sym (rows n (omega arith))) ∙ t)),
     (λ k l. rows k (omega arith)),
   )
 
@@ -126,17 +125,17 @@ abort_beside allows s p = by_result s (Beside s) (refl, refl) (passed s.table S.
 pub decide_beside : (allows : Rule) (s : Moment) (p : ℕ) → Beside s (after_call allows s (C.Decide p))
 decide_beside allows s p =
     by_result s (Beside s) (refl, refl) (passed s.table S.Decide p true) _ (λ _ _.
-    by_test s (Beside s) (refl, refl) (any_row (applies VotedNo p) s.table.rows) _ _
+    by_test s (Beside s) (refl, refl) (list_any (voted_no p) s.table.rows) _ _
     (λ _. (refl, refl))
-    (λ _. by_test s (Beside s) (refl, refl) (any_row (applies VoteMissing p) s.table.rows) _ _ (λ _. (refl, refl)) (λ _. (refl, refl))))
+    (λ _. by_test s (Beside s) (refl, refl) (list_any (lacks_vote p) s.table.rows) _ _ (λ _. (refl, refl)) (λ _. (refl, refl))))
 
 pub votes_beside : (s m : Moment) (p : ℕ) → Beside s m → votes m p ≡ votes s p
 votes_beside s m p b =
-    ap₂ (λ (rows : List Row) (store : Writing). each (λ e. applies VoteMissing p (get_or rows e unlocked)) (λ e. C.Vote p e) store.reading.entries) b.0 b.1
+    ap₂ (λ (rows : List Row) (store : Writing). each (λ e. lacks_vote p (get_or rows e unlocked)) (λ e. C.Vote p e) store.reading.entries) b.0 b.1
 
 pub wind_up_beside : (s m : Moment) (p : ℕ) → Beside s m → wind_up m p ≡ wind_up s p
 wind_up_beside s m p b =
-    ap₂ (λ (rows : List Row) (store : Writing). each (λ e. applies Held p (get_or rows e unlocked)) (λ e. C.Finish p e) store.reading.entries ++ C.Close p ∷ []) b.0 b.1
+    ap₂ (λ (rows : List Row) (store : Writing). each (λ e. is_holder p (get_or rows e unlocked)) (λ e. C.Finish p e) store.reading.entries ++ C.Close p ∷ []) b.0 b.1
 
 pub conclude_beside : (s m : Moment) (p : ℕ) → Beside s m → conclude m p ≡ conclude s p
 conclude_beside s m p b = ap₂ (λ (xs ys : List Call). xs ++ C.Decide p ∷ ys) (votes_beside s m p b) (wind_up_beside s m p b)
@@ -151,7 +150,7 @@ set_kept f (a ∷ xs) (suc i) (suc j) x d q = set_kept f xs i j x d q
 
 -- what the seat holds, and the store, as they were
 abbrev pub Holding : ℕ → Moment → Moment → Type 0
-Holding p s m = ((k : ℕ) → applies Held p (row_at m.table k) ≡ applies Held p (row_at s.table k)) × (m.store ≡ s.store)
+Holding p s m = ((k : ℕ) → is_holder p (row_at m.table k) ≡ is_holder p (row_at s.table k)) × (m.store ≡ s.store)
 
 vote_holding : (allows : Rule) (s : Moment) (p e : ℕ) → Holding p s (after_call allows s (C.Vote p e))
 vote_holding allows s p e =
@@ -170,8 +169,8 @@ votes_holding allows s p =
 pub wind_up_holding : (s m : Moment) (p : ℕ) → Holding p s m → wind_up m p ≡ wind_up s p
 wind_up_holding s m p h =
     ap (λ (xs : List Call). xs ++ C.Close p ∷ [])
-    (ap (λ (store : Writing). each (λ e. applies Held p (row_at m.table e)) (λ e. C.Finish p e) store.reading.entries) h.1
-    ∙ each_same (λ e. applies Held p (row_at m.table e)) (λ e. applies Held p (row_at s.table e)) (λ e. C.Finish p e) s.store.reading.entries h.0)
+    (ap (λ (store : Writing). each (λ e. is_holder p (row_at m.table e)) (λ e. C.Finish p e) store.reading.entries) h.1
+    ∙ each_same (λ e. is_holder p (row_at m.table e)) (λ e. is_holder p (row_at s.table e)) (λ e. C.Finish p e) s.store.reading.entries h.0)
 
 -- ------------------------------------------------------------ calls after calls, on a pool that keeps its house rule
 

@@ -1,7 +1,7 @@
 -- Lists of calls on a pool: what they leave and answer.
 use Rattle.std.specs.Prelude.{◌≡◌, ℕ, zero, suc, Bool, cond, List, [], ◌∷◌, ◌++◌, Option}
 use Rattle.calls.specs.declared.call.Call.{Call}
-use Rattle.calls.specs.declared.answer.Answer.{Answer}
+use Rattle.calls.specs.Answers.{Answer}
 use Rattle.store.specs.declared.version.Version.{Version}
 use Rattle.store.specs.Meaning.{Reading}
 use Rattle.pool.specs.declared.pool.Pool.{Pool}

@@ -8,11 +8,10 @@ use Rattle.calls.specs.declared.fault.Fault.{Fault}
 use Rattle.calls.specs.declared.state.State.{State}
 use Rattle.calls.specs.declared.state.State.TheVariants.{Idle, Editing, Voting, Commit, Abort}
 use Rattle.store.specs.Meaning.{Readable}
-use Rattle.pool.specs.declared.scans.Question.TheVariants.{VoteMissing, Held}
 use Rattle.pool.specs.declared.table.Table.{Table}
 use Rattle.pool.specs.Tables.{Moment, place_at, row_at}
 use Rattle.pool.specs.Checks.{has_seat}
-use Rattle.pool.specs.Scans.{applies}
+use Rattle.pool.specs.Scans.{is_holder, lacks_vote}
 use Rattle.pool.specs.Calls.{Rule, Done, done, then, begin}
 use Rattle.law.specs.Histories.{Line, said}
 use Rattle.alone.specs.Runs.{Reached, GoesOn, answer_of, holders}
@@ -33,11 +32,11 @@ state_of t p serial = cond (has_seat t p && (place_at t p).serial == serial) (pl
 
 -- a vote for each entry that the seat holds and has not voted on
 abbrev pub votes : Moment → ℕ → List Call
-votes s p = each (λ e. applies VoteMissing p (row_at s.table e)) (λ e. C.Vote p e) s.store.reading.entries
+votes s p = each (λ e. lacks_vote p (row_at s.table e)) (λ e. C.Vote p e) s.store.reading.entries
 
 -- a finish for each entry that it holds
 abbrev pub finishes : Moment → ℕ → List Call
-finishes s p = each (λ e. applies Held p (row_at s.table e)) (λ e. C.Finish p e) s.store.reading.entries
+finishes s p = each (λ e. is_holder p (row_at s.table e)) (λ e. C.Finish p e) s.store.reading.entries
 
 -- of a decided edit
 abbrev pub wind_up : Moment → ℕ → List Call

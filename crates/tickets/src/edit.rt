@@ -3,7 +3,7 @@ ghost use Rattle.pool.specs.Pools.{at, Makes};
 ghost use Rattle.tickets.specs.Tickets.{take, settle_calls, give_up_calls, settle_fate, give_up_fate, Ended};
 
 use crate::fate::Fate;
-use crate::rest::{give_up_at, settle_at};
+use crate::rest::edit_of;
 use crate::ticket::Ticket;
 use calls::fault::Fault;
 use pool::pool::Pool;
@@ -19,10 +19,8 @@ pub fn take<S: WritingStore, R: HouseRule>(
     ensures made { Makes S.ReadingStore.reading S.WritingStore.staged pool.old (λ s. take s seat) result pool.new }
     ensures unspent { IfOk result (λ t. (t.seat ≡ seat) × (0 < t.serial)) }
 {
-    match pool.begin(seat) {
-        Ok(serial) => Ok(Ticket { seat, serial }),
-        Err(fault) => Err(fault),
-    }
+    let serial = pool.begin(seat)?;
+    Ok(Ticket { seat, serial })
 }
 
 // Makes the calls that are left of the edit: it is committed if every vote is yes, and else aborted. The ticket is spent.
@@ -33,9 +31,12 @@ pub fn settle<S: WritingStore, R: HouseRule>(pool: &mut Pool<S, R>, ticket: &mut
     ensures spent { ticket.new ≡ record { seat = ticket.old.seat; serial = 0 } }
     ensures rule { pool.new.rule ≡ pool.old.rule }
 {
-    let fate = settle_at(pool, ticket.seat, ticket.serial);
+    let unsettled = edit_of(pool, ticket.seat, ticket.serial);
     ticket.serial = 0;
-    fate
+    match unsettled {
+        Some(edit) => edit.settle(pool),
+        None => Fate::Gone,
+    }
 }
 
 // Aborts the edit if it is undecided, and makes the calls that are left of it. The ticket is spent.
@@ -46,7 +47,10 @@ pub fn give_up<S: WritingStore, R: HouseRule>(pool: &mut Pool<S, R>, ticket: &mu
     ensures spent { ticket.new ≡ record { seat = ticket.old.seat; serial = 0 } }
     ensures rule { pool.new.rule ≡ pool.old.rule }
 {
-    let fate = give_up_at(pool, ticket.seat, ticket.serial);
+    let unwanted = edit_of(pool, ticket.seat, ticket.serial);
     ticket.serial = 0;
-    fate
+    match unwanted {
+        Some(edit) => edit.give_up(pool),
+        None => Fate::Gone,
+    }
 }

@@ -1,7 +1,24 @@
+ghost use Rattle.std.specs.Prelude.{Some};
+ghost use Rattle.tickets.specs.Texts.{fate_text};
+
+use std::fmt;
+
 // What became of an edit. Gone: the seat was idle, missing or at another serial, and nothing was called.
 #[derive(Clone, Copy, PartialEq, Eq, Debug)]
 pub enum Fate {
     Commit,
     Abort,
     Gone,
+}
+
+impl fmt::Display for Fate {
+    ghost output = { λ fate. Some (fate_text fate) };
+
+    fn fmt<W: fmt::Write>(&self, f: &mut fmt::Formatter<W>) -> fmt::Result {
+        f.write_str(match self {
+            Fate::Commit => "commit",
+            Fate::Abort => "abort",
+            Fate::Gone => "gone",
+        })
+    }
 }

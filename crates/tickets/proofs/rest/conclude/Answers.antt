@@ -7,22 +7,22 @@ use Rattle.pool.specs.Tables.{Moment}
 use Rattle.alone.specs.Runs.{answer_of}
 use Rattle.tickets.specs.Tickets.{fate_by}
 use Rattle.tickets.proofs.Made.{conclude_made}
-use Rattle.tickets.proofs.rest.conclude_all.Goals as goal
+use Rattle.tickets.proofs.rest.conclude.Goals as goal
 
 pub returns : goal.returns
 returns g c =
     let moment = at g.S.ReadingStore.reading g.S.WritingStore.staged in
     let allowed = g.R.HouseRule.allowed in
-    let p = c.args.seat in
+    let p = c.args.seat.number in
     let voted = c.vote_all.new.pool in
     let decided = c.make.new.pool in
     let same = ap allowed c.vote_all.ensures.rule in
     record {
-      answers = c.told-fate.ensures ∙ ap (λ a. fate_by (said a)) c.make.ensures.answers
+      answers = c.fate_by-fate.ensures ∙ ap (λ a. fate_by (said a)) c.make.ensures.answers
           ∙ ap₂ (λ (f : Rule) (m : Moment). fate_by (said (answer_of f m (C.Decide p)))) same c.vote_all.ensures.leaves;
       called = record {
         leaves = conclude_made (allowed c.args.pool.now.rule) (allowed voted.rule) (allowed decided.rule) same (ap allowed (c.make.ensures.rule ∙ c.vote_all.ensures.rule))
-            (moment c.args.pool.now) (moment voted) (moment decided) (moment c.wind_up_all.new.pool) p c.vote_all.ensures.leaves c.make.ensures.leaves c.wind_up_all.ensures.leaves;
-        rule = c.wind_up_all.ensures.rule ∙ c.make.ensures.rule ∙ c.vote_all.ensures.rule;
+            (moment c.args.pool.now) (moment voted) (moment decided) (moment c.wind_up.new.pool) p c.vote_all.ensures.leaves c.make.ensures.leaves c.wind_up.ensures.leaves;
+        rule = c.wind_up.ensures.rule ∙ c.make.ensures.rule ∙ c.vote_all.ensures.rule;
       };
     }
