@@ -12,9 +12,13 @@ abbrev pub zeros : Limits
 zeros = record { smallest = pos 0; largest = pos 0 }
 
 -- both numbers are at most 10^17 from 0, and the smallest is not above the largest
-abbrev pub stands : Limits → Bool
-stands l = within 100000000000000000 l.smallest && within 100000000000000000 l.largest && int_le l.smallest l.largest
+abbrev pub limits_stand : Limits → Bool
+limits_stand l = within 100000000000000000 l.smallest && within 100000000000000000 l.largest && int_le l.smallest l.largest
 
 -- the value is not below the smallest and not above the largest
 abbrev pub between : Limits → ℤ → Bool
 between l z = int_le l.smallest z && int_le z l.largest
+
+-- the new value lies between them, whatever the last one was
+abbrev pub limits_permit : Limits → ℤ → ℤ → Bool
+limits_permit l last new = between l new

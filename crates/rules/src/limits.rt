@@ -1,5 +1,8 @@
-ghost use Rattle.std.specs.Prelude.{◌≡◌};
-ghost use Rattle.rules.specs.Limits.{between, stands};
+ghost use Rattle.std.specs.Prelude.{refl};
+ghost use Rattle.std.proofs.Common.{rules};
+ghost use Rattle.rules.specs.Limits.{widest, limits_stand, limits_permit};
+
+use crate::setting::Setting;
 
 // The farthest that a limit may lie from 0 on either side, in femtoseconds.
 const FARTHEST: i64 = 100_000_000_000_000_000;
@@ -11,22 +14,28 @@ pub struct Limits {
     pub largest: i64,
 }
 
-pub const WIDEST: Limits = Limits {
-    smallest: -FARTHEST,
-    largest: FARTHEST,
-};
+impl Setting for Limits {
+    const WIDEST: Limits = Limits {
+        smallest: -FARTHEST,
+        largest: FARTHEST,
+    };
 
-impl Limits {
-    // Whether a rule may have these limits.
-    pub fn stand(self) -> bool
-        ensures { result ≡ stands self }
-    {
+    ghost WIDEST = { widest };
+
+    ghost stands = { limits_stand };
+
+    ghost permits = { limits_permit };
+
+    fn stands(self) -> bool {
         -FARTHEST <= self.smallest && self.smallest <= self.largest && self.largest <= FARTHEST
     }
 
-    pub fn hold(self, value: i64) -> bool
-        ensures { result ≡ between self value }
-    {
-        self.smallest <= value && value <= self.largest
+    // Whatever the last value was.
+    fn permits(self, _last: i64, new: i64) -> bool {
+        (self.smallest..=self.largest).contains(&new)
     }
+
+    ghost widest_stands = { refl };
+
+    ghost widest_permits = { Prim.search rules };
 }

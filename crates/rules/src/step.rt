@@ -1,11 +1,38 @@
-ghost use Rattle.std.specs.Prelude.{ℕ, ◌≤◌, slice_index};
-ghost use Rattle.rules.specs.Step.{longest};
+ghost use Rattle.std.specs.Prelude.{refl};
+ghost use Rattle.std.proofs.Common.{rules};
+ghost use Rattle.rules.specs.Step.{longest_step, step_stands, step_permits};
 
-pub mod ops;
+use crate::entry_rule::EntryRule;
+use crate::setting::Setting;
+
+// The longest step, in femtoseconds: from one end of the values to the other.
+const LONGEST: u64 = 200_000_000_000_000_000;
+
+// The farthest that a new value may lie from the last.
+#[derive(Clone, Copy, PartialEq, Eq, Debug)]
+pub struct Step(pub u64);
+
+impl Setting for Step {
+    const WIDEST: Step = Step(LONGEST);
+
+    ghost WIDEST = { longest_step };
+
+    ghost stands = { step_stands };
+
+    ghost permits = { step_permits };
+
+    fn stands(self) -> bool {
+        self.0 <= LONGEST
+    }
+
+    fn permits(self, last: i64, new: i64) -> bool {
+        new.abs_diff(last) <= self.0
+    }
+
+    ghost widest_stands = { refl };
+
+    ghost widest_permits = { Prim.search rules };
+}
 
 // Says yes to a new value that differs from the last by at most the step of its entry.
-#[derive(Drop)]
-pub struct StepRule {
-    steps: [u64; 64],
-    ghost bounded: { (e : ℕ) → slice_index steps e ≤ longest },
-}
+pub type StepRule = EntryRule<Step>;
