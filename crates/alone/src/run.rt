@@ -1,9 +1,9 @@
-ghost use Rattle.std.specs.Prelude.{◌≡◌, ◌≤◌, [], length, IfOk, vec_len, vec_capacity, MatchResult};
+ghost use Rattle.std.specs.Prelude.{◌≡◌, ◌≤◌, [], length, IfOk, vec_len, vec_capacity, MatchResult, Some};
 ghost use Rattle.pool.specs.Pools.{at};
 ghost use Rattle.law.specs.Histories.{history};
 ghost use Rattle.law.specs.Promise.{AsIfAlone};
 ghost use Rattle.alone.specs.Runs.{Ran, GoesOn, AlwaysAlone, chains, holders};
-ghost use Rattle.alone.specs.Stops.{Stopped};
+ghost use Rattle.alone.specs.Stops.{Stopped, stop_text};
 ghost use Rattle.alone.specs.declared.run.Stop.TheVariants.{Refused, NoMemory};
 
 use crate::call::make;
@@ -13,15 +13,30 @@ use calls::fault::Fault;
 use pool::pool::Pool;
 use rules::house::HouseRule;
 use std::alloc::{AllocError, Global};
+use std::error::Error;
+use std::fmt;
 use store::reading::ReadingStore;
 use store::writing::WritingStore;
 
 // Why no call of a list was made: opening was refused, or there is no memory for the answers.
-#[derive(Clone, Copy)]
+#[derive(Clone, Copy, PartialEq, Eq, Debug)]
 pub enum Stop {
     Refused(Fault),
     NoMemory,
 }
+
+impl fmt::Display for Stop {
+    ghost output = { λ stop. Some (stop_text stop) };
+
+    fn fmt<W: fmt::Write>(&self, f: &mut fmt::Formatter<W>) -> fmt::Result {
+        f.write_str(match self {
+            Stop::Refused(_) => "the pool could not be opened",
+            Stop::NoMemory => "no memory for the answers",
+        })
+    }
+}
+
+impl Error for Stop {}
 
 impl From<Fault> for Stop {
     ghost from_gives = { λ f s. s ≡ Refused f };

@@ -4,13 +4,15 @@
 
 mod moves;
 
-use anyhow::anyhow;
+use anyhow::Context;
 use calls::fault::Fault;
 use moves::{closed_by_hand, look_and_move, move_slack};
 use pool::pool::Pool;
+use rules::limits::Limits;
 use rules::range::RangeRule;
 use std::io;
 use store::reading::ReadingStore;
+use store::text::chain_text;
 use store::version::OPENING;
 use table::TableStore;
 use tickets::fate::Fate;
@@ -30,17 +32,17 @@ fn main(rt: HostRuntime) -> anyhow::Result<()> {
 
 fn show(rt: &HostRuntime) -> anyhow::Result<()> {
     let mut store = TableStore::over(vec![in rt.alloc(); OPENING; ENTRIES * DEPTH]?);
-    if store.lay_out(ENTRIES, DEPTH).is_err() {
-        return Err(anyhow!("the table could not be laid out"));
-    }
+    store
+        .lay_out(ENTRIES, DEPTH)
+        .context("the table could not be laid out")?;
     let mut rule = RangeRule::new();
-    if rule.set(1, -LIMIT, LIMIT).is_err() {
-        return Err(anyhow!("the limits do not stand"));
-    }
+    let limits = Limits {
+        smallest: -LIMIT,
+        largest: LIMIT,
+    };
+    rule.set(1, limits).context("the limits do not stand")?;
     let mut pool = Pool::new(store, rule);
-    if pool.open(SEATS).is_err() {
-        return Err(anyhow!("the pool could not be opened"));
-    }
+    pool.open(SEATS).context("the pool could not be opened")?;
     print!(rt; "move 3000000: ")?;
     tell(rt, move_slack(&mut pool, 0, 3_000_000))?;
     // seat 1 reads entry 1 in an edit of its own, and seat 0 may not write there meanwhile
@@ -56,30 +58,16 @@ fn show(rt: &HostRuntime) -> anyhow::Result<()> {
     tell(rt, closed_by_hand(&mut pool))?;
     print!(rt; "move -1000000: ")?;
     tell(rt, move_slack(&mut pool, 0, -1_000_000))?;
-    show_chains(rt, pool.store())?;
+    for entry in 0..pool.store().entries() {
+        let chain = chain_text(rt.alloc(), pool.store(), entry)?;
+        print!(rt; "entry {entry}\n{chain}")?;
+    }
     Ok(())
 }
 
 fn tell(rt: &HostRuntime, moved: Result<Fate, Fault>) -> io::Result<()> {
     match moved {
-        Ok(Fate::Commit) => println!(rt; "commit"),
-        Ok(Fate::Abort) => println!(rt; "abort"),
-        Ok(Fate::Gone) => println!(rt; "gone"),
-        Err(fault) => println!(rt; "refused {}", fault.number()),
+        Ok(fate) => println!(rt; "{fate}"),
+        Err(fault) => println!(rt; "{fault}"),
     }
-}
-
-fn show_chains<S: ReadingStore>(rt: &HostRuntime, store: &S) -> io::Result<()> {
-    for entry in 0..store.entries() {
-        println!(rt; "entry {entry}")?;
-        for i in 0..store.chain_len(entry) {
-            if let Some(version) = store.version(entry, i) {
-                println!(rt;
-                    "  {} by seat {} serial {}",
-                    version.value, version.seat, version.serial
-                )?;
-            }
-        }
-    }
-    Ok(())
 }

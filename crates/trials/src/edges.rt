@@ -1,9 +1,10 @@
 use alone::call::make;
-use calls::answer::Answer::{Decided, Done, Refused, Serial, Value, Voted};
+use calls::answer::Reply::{Decided, Done, Serial, Value, Voted};
 use calls::answer::{Answer, Decision};
 use calls::call::Call;
 use calls::fault::Fault;
 use pool::pool::Pool;
+use rules::limits::Limits;
 use rules::range::RangeRule;
 use std::alloc::Global;
 use std::process::Abort;
@@ -49,18 +50,22 @@ fn close(seat: usize) -> Call {
 }
 
 // Two entries of depth 2; entry 1 takes values from -5 to 5.
-fn a_pool(rt: &impl Abort, heap: Global) -> Result<Pool<TableStore, RangeRule>, Fail> {
+fn a_pool(heap: Global) -> Result<Pool<TableStore, RangeRule>, Fail> {
     let mut store = TableStore::over(vec![in heap; OPENING; 4]?);
-    assert!(rt; store.lay_out(2, 2).is_ok());
+    store.lay_out(2, 2)?;
     let mut rule = RangeRule::new();
-    assert!(rt; rule.set(1, -5, 5).is_ok());
+    let limits = Limits {
+        smallest: -5,
+        largest: 5,
+    };
+    rule.set(1, limits)?;
     Ok(Pool::new(store, rule))
 }
 
 // Opens a pool for three seats, and holds the answer of each call to the one beside it.
 fn expect(rt: &impl Abort, heap: Global, trial: &[(Call, Answer)]) -> Result<(), Fail> {
-    let mut pool = a_pool(rt, heap)?;
-    assert!(rt; pool.open(3).is_ok());
+    let mut pool = a_pool(heap)?;
+    pool.open(3)?;
     for (call, answer) in trial {
         assert_eq!(rt; make(&mut pool, *call), *answer);
     }
@@ -70,7 +75,7 @@ fn expect(rt: &impl Abort, heap: Global, trial: &[(Call, Answer)]) -> Result<(),
 #[test]
 fn opening(rt: HostRuntime) -> Result<(), Fail> {
     for (seats, opens) in [(0, false), (1, true), (16, true), (17, false)] {
-        let mut pool = a_pool(&rt, rt.alloc())?;
+        let mut pool = a_pool(rt.alloc())?;
         assert_eq!(rt; pool.open(seats).is_ok(), opens);
         assert_eq!(rt; pool.open(1).is_ok(), !opens);
     }
@@ -84,48 +89,48 @@ fn opening(rt: HostRuntime) -> Result<(), Fail> {
 
 #[test]
 fn seats_and_entries_come_before_states(rt: HostRuntime) -> Result<(), Fail> {
-    let no_entry = Refused(Fault::Store(Refusal::NoSuchEntry));
+    let no_entry = Err(Fault::Store(Refusal::NoSuchEntry));
     expect(
         &rt,
         rt.alloc(),
         &[
-            (begin(3), Refused(Fault::NoSuchSeat)),
-            (read(3, 2), Refused(Fault::NoSuchSeat)),
+            (begin(3), Err(Fault::NoSuchSeat)),
+            (read(3, 2), Err(Fault::NoSuchSeat)),
             (read(0, 2), no_entry),
-            (read(0, 0), Refused(Fault::WrongState)),
-            (begin(0), Serial(1)),
-            (begin(0), Refused(Fault::WrongState)),
+            (read(0, 0), Err(Fault::WrongState)),
+            (begin(0), Ok(Serial(1))),
+            (begin(0), Err(Fault::WrongState)),
             (write(0, 2, 0), no_entry),
-            (vote(0, 0), Refused(Fault::WrongState)),
-            (finish(0, 0), Refused(Fault::WrongState)),
-            (decide(0), Refused(Fault::WrongState)),
-            (close(0), Refused(Fault::WrongState)),
+            (vote(0, 0), Err(Fault::WrongState)),
+            (finish(0, 0), Err(Fault::WrongState)),
+            (decide(0), Err(Fault::WrongState)),
+            (close(0), Err(Fault::WrongState)),
         ],
     )
 }
 
 #[test]
 fn readers_share_and_a_writer_excludes(rt: HostRuntime) -> Result<(), Fail> {
-    let in_the_way = Refused(Fault::LockInTheWay);
+    let in_the_way = Err(Fault::LockInTheWay);
     expect(
         &rt,
         rt.alloc(),
         &[
-            (begin(0), Serial(1)),
-            (begin(1), Serial(1)),
-            (read(0, 0), Value(0)),
-            (read(1, 0), Value(0)),
+            (begin(0), Ok(Serial(1))),
+            (begin(1), Ok(Serial(1))),
+            (read(0, 0), Ok(Value(0))),
+            (read(1, 0), Ok(Value(0))),
             (write(0, 0, 1), in_the_way),
             (write(1, 0, 1), in_the_way),
-            (abort(1), Done),
+            (abort(1), Ok(Done)),
             (write(0, 0, 1), in_the_way),
-            (finish(1, 0), Done),
-            (write(0, 0, 1), Done),
-            (read(0, 0), Value(1)),
-            (write(0, 0, 2), Done),
-            (read(0, 0), Value(2)),
-            (close(1), Done),
-            (begin(1), Serial(2)),
+            (finish(1, 0), Ok(Done)),
+            (write(0, 0, 1), Ok(Done)),
+            (read(0, 0), Ok(Value(1))),
+            (write(0, 0, 2), Ok(Done)),
+            (read(0, 0), Ok(Value(2))),
+            (close(1), Ok(Done)),
+            (begin(1), Ok(Serial(2))),
             (read(1, 0), in_the_way),
         ],
     )
@@ -137,22 +142,22 @@ fn votes_decide(rt: HostRuntime) -> Result<(), Fail> {
         &rt,
         rt.alloc(),
         &[
-            (begin(0), Serial(1)),
-            (write(0, 0, 7), Done),
-            (write(0, 1, 6), Done),
-            (prepare(0), Done),
-            (decide(0), Refused(Fault::VotesMissing)),
-            (vote(0, 1), Voted(false)),
-            (vote(0, 1), Refused(Fault::VotedAlready)),
-            (decide(0), Decided(Decision::Abort)),
-            (close(0), Refused(Fault::LocksRemain)),
-            (finish(0, 0), Done),
-            (finish(0, 0), Refused(Fault::NoLock)),
-            (finish(0, 1), Done),
-            (close(0), Done),
-            (begin(0), Serial(2)),
-            (read(0, 0), Value(0)),
-            (read(0, 1), Value(0)),
+            (begin(0), Ok(Serial(1))),
+            (write(0, 0, 7), Ok(Done)),
+            (write(0, 1, 6), Ok(Done)),
+            (prepare(0), Ok(Done)),
+            (decide(0), Err(Fault::VotesMissing)),
+            (vote(0, 1), Ok(Voted(false))),
+            (vote(0, 1), Err(Fault::VotedAlready)),
+            (decide(0), Ok(Decided(Decision::Abort))),
+            (close(0), Err(Fault::LocksRemain)),
+            (finish(0, 0), Ok(Done)),
+            (finish(0, 0), Err(Fault::NoLock)),
+            (finish(0, 1), Ok(Done)),
+            (close(0), Ok(Done)),
+            (begin(0), Ok(Serial(2))),
+            (read(0, 0), Ok(Value(0))),
+            (read(0, 1), Ok(Value(0))),
         ],
     )
 }
@@ -163,25 +168,25 @@ fn commits_fill_a_chain(rt: HostRuntime) -> Result<(), Fail> {
         &rt,
         rt.alloc(),
         &[
-            (begin(0), Serial(1)),
-            (prepare(0), Done),
-            (vote(0, 0), Refused(Fault::NoLock)),
-            (decide(0), Decided(Decision::Commit)),
-            (close(0), Done),
-            (begin(0), Serial(2)),
+            (begin(0), Ok(Serial(1))),
+            (prepare(0), Ok(Done)),
+            (vote(0, 0), Err(Fault::NoLock)),
+            (decide(0), Ok(Decided(Decision::Commit))),
+            (close(0), Ok(Done)),
+            (begin(0), Ok(Serial(2))),
             (
                 write(0, 0, 100_000_000_000_000_001),
-                Refused(Fault::Store(Refusal::ValueBeyondReach)),
+                Err(Fault::Store(Refusal::ValueBeyondReach)),
             ),
-            (write(0, 0, 100_000_000_000_000_000), Done),
-            (prepare(0), Done),
-            (vote(0, 0), Voted(true)),
-            (decide(0), Decided(Decision::Commit)),
-            (finish(0, 0), Done),
-            (close(0), Done),
-            (begin(1), Serial(1)),
-            (write(1, 0, 1), Refused(Fault::Store(Refusal::ChainFull))),
-            (read(1, 0), Value(100_000_000_000_000_000)),
+            (write(0, 0, 100_000_000_000_000_000), Ok(Done)),
+            (prepare(0), Ok(Done)),
+            (vote(0, 0), Ok(Voted(true))),
+            (decide(0), Ok(Decided(Decision::Commit))),
+            (finish(0, 0), Ok(Done)),
+            (close(0), Ok(Done)),
+            (begin(1), Ok(Serial(1))),
+            (write(1, 0, 1), Err(Fault::Store(Refusal::ChainFull))),
+            (read(1, 0), Ok(Value(100_000_000_000_000_000))),
         ],
     )
 }
