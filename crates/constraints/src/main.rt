@@ -2,15 +2,11 @@
 // says what became of it, and shows every chain at the end. Values are in femtoseconds.
 #![tactic(auto)]
 
-use anyhow::anyhow;
-use intake::bring::Outcome;
-use intake::line::Proposal;
-use intake::reason::reason;
-use intake::report::{Report, take_line};
+use anyhow::Context;
+use intake::report::take_line;
 use rules::range::RangeRule;
 use std::io;
 use store::reading::ReadingStore;
-use store::refusal::Refusal;
 use store::version::OPENING;
 use table::TableStore;
 
@@ -57,10 +53,16 @@ fn main(rt: HostRuntime) -> anyhow::Result<()> {
 fn run(rt: &HostRuntime) -> anyhow::Result<()> {
     let rule = house_rule()?;
     let mut store = TableStore::over(vec![in rt.alloc(); OPENING; ENTRIES * DEPTH]?);
-    settled(store.lay_out(ENTRIES, DEPTH))?;
+    store
+        .lay_out(ENTRIES, DEPTH)
+        .context("laying out the store")?;
     for (index, line) in rt.lines(rt.alloc()).enumerate() {
-        let report = take_line(&mut store, &rule, line?.as_str());
-        tell(rt, index.saturating_add(1), report)?;
+        let number = index.saturating_add(1);
+        match take_line(&mut store, &rule, line?.as_str()) {
+            Ok(None) => {}
+            Ok(Some(brought)) => println!(rt; "line {number}: {brought}")?,
+            Err(trouble) => println!(rt; "line {number}: {trouble}")?,
+        }
     }
     show_chains(rt, &store)?;
     Ok(())
@@ -69,54 +71,21 @@ fn run(rt: &HostRuntime) -> anyhow::Result<()> {
 fn house_rule() -> anyhow::Result<RangeRule> {
     let mut rule = RangeRule::new();
     for (entry, constraint) in CONSTRAINTS.iter().enumerate() {
-        settled(rule.set(entry, constraint.smallest, constraint.largest))?;
+        rule.set(entry, constraint.smallest, constraint.largest)
+            .context(constraint.label)?;
     }
     Ok(rule)
-}
-
-fn settled(answer: Result<(), Refusal>) -> anyhow::Result<()> {
-    match answer {
-        Ok(()) => Ok(()),
-        Err(refusal) => Err(anyhow!("{}", reason(refusal))),
-    }
-}
-
-fn tell(rt: &HostRuntime, number: usize, report: Report) -> io::Result<()> {
-    match report {
-        Report::Skipped => Ok(()),
-        Report::Malformed => println!(rt; "line {number}: malformed: not ENTRY SEAT SERIAL VALUE"),
-        Report::Refused(refusal) => println!(rt;
-            "line {number}: refused {}: {}",
-            refusal.number(),
-            reason(refusal)
-        ),
-        Report::Brought(Proposal { entry, version }, Outcome::Published) => {
-            println!(rt;
-                "line {number}: entry {entry} published {} by seat {} serial {}",
-                version.value, version.seat, version.serial
-            )
-        }
-        Report::Brought(Proposal { entry, version }, Outcome::Withdrawn) => {
-            println!(rt;
-                "line {number}: entry {entry} withdrawn {}: the house rule says no",
-                version.value
-            )
-        }
-    }
 }
 
 fn show_chains<S: ReadingStore>(rt: &HostRuntime, store: &S) -> io::Result<()> {
     for (entry, constraint) in CONSTRAINTS.iter().enumerate() {
         println!(rt; "entry {entry}, {}", constraint.label)?;
-        for i in 0..store.chain_len(entry) {
-            match store.version(entry, i) {
-                Some(version) if i > 0 => println!(rt;
-                    "  {} by seat {} serial {}",
-                    version.value, version.seat, version.serial
-                )?,
-                Some(opening) => println!(rt; "  {} at first", opening.value)?,
-                None => {}
-            }
+        let mut chain = (0..store.chain_len(entry)).filter_map(|i| store.version(entry, i));
+        if let Some(opening) = chain.next() {
+            println!(rt; "  {} at first", opening.value)?;
+        }
+        for version in chain {
+            println!(rt; "  {version}")?;
         }
     }
     Ok(())

@@ -1,5 +1,5 @@
 pub mod Bring
 pub mod Numbers
 pub mod Line
-pub mod Reason
 pub mod Report
+pub mod Texts

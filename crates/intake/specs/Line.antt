@@ -1,19 +1,17 @@
 -- What a line of input says.
-use Rattle.std.specs.Prelude.{ℕ, Bool, cond, ◌||◌, List, [], ◌∷◌, length, ℤ, Some, None, Option, ◌==◌, slice_index}
+use Rattle.std.specs.Prelude.{ℕ, Bool, cond, ◌||◌, List, length, ℤ, Some, None, Ok, Err, Option, Result, ◌==◌, slice_index}
+use Rattle.std.specs.List.{before_first, after_first}
 use Rattle.intake.specs.Numbers.{natural_in, integer_in}
 use Rattle.intake.specs.declared.line.Proposal.{Proposal}
-use Rattle.intake.specs.declared.line.Line.{Line}
-use Rattle.intake.specs.declared.line.Line.TheVariants.{Skipped, Malformed, Proposed}
+use Rattle.intake.specs.declared.line.Malformed.{Malformed}
 
 -- a text up to its first space
 abbrev pub first_word : List ℕ → List ℕ
-first_word [] = []
-first_word (c ∷ cs) = cond (c == 32) [] (c ∷ first_word cs)
+first_word s = before_first (λ c. c == 32) s
 
 -- what follows the first space of a text; without a space, nothing
 abbrev pub past_word : List ℕ → List ℕ
-past_word [] = []
-past_word (c ∷ cs) = cond (c == 32) cs (past_word cs)
+past_word s = after_first (λ c. c == 32) s
 
 -- a proposal, where each of its four numbers was found
 abbrev pub proposal_of : Option ℕ → Option ℕ → Option ℕ → Option ℤ → Option Proposal
@@ -39,9 +37,10 @@ proposal_in s =
 abbrev pub is_skipped : List ℕ → Bool
 is_skipped s = length s == 0 || slice_index s 0 == 35
 
-abbrev pub proposed : Option Proposal → Line
-proposed None = Malformed
-proposed (Some p) = Proposed p
+abbrev pub proposed : Option Proposal → Result (Option Proposal) Malformed
+proposed None = Err (record {})
+proposed (Some p) = Ok (Some p)
 
-abbrev pub line_in : List ℕ → Line
-line_in s = cond (is_skipped s) Skipped (proposed (proposal_in s))
+-- a skipped line proposes nothing; another proposes a version, or is malformed
+abbrev pub line_in : List ℕ → Result (Option Proposal) Malformed
+line_in s = cond (is_skipped s) (Ok None) (proposed (proposal_in s))

@@ -1,10 +1,10 @@
 ghost use Rattle.store.specs.Meaning.{writing};
 ghost use Rattle.intake.specs.Bring.{BringsIn};
 
+use crate::line::Proposal;
 use rules::house::HouseRule;
 use store::latest::last_version;
 use store::refusal::Refusal;
-use store::version::Version;
 use store::writing::WritingStore;
 
 // What became of a version that the store took.
@@ -18,11 +18,11 @@ pub enum Outcome {
 pub fn bring_in<S: WritingStore, R: HouseRule>(
     store: &mut S,
     rule: &R,
-    entry: usize,
-    version: Version,
+    proposal: Proposal,
 ) -> Result<Outcome, Refusal>
-    ensures { BringsIn (writing S.ReadingStore.reading S.WritingStore.staged store.old) (R.HouseRule.allowed rule.now) entry version result (writing S.ReadingStore.reading S.WritingStore.staged store.new) }
+    ensures { BringsIn (writing S.ReadingStore.reading S.WritingStore.staged store.old) (R.HouseRule.allowed rule.now) proposal.entry proposal.version result (writing S.ReadingStore.reading S.WritingStore.staged store.new) }
 {
+    let Proposal { entry, version } = proposal;
     store.stage(entry, version)?;
     let last = last_version(store, entry);
     if rule.allows(entry, last.value, version.value) {

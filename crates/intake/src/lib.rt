@@ -1,10 +1,9 @@
-// Brings proposed constraints into a store under a house rule: reads a line, judges it, and says why one is refused.
+// Brings proposed constraints into a store under a house rule: reads a line, judges it, and says what became of it.
 #![tactic(auto)]
 
 pub mod bring;
 pub mod line;
 mod numbers;
-pub mod reason;
 pub mod report;
 #[cfg(test)]
 mod tests;
