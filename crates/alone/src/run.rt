@@ -30,8 +30,8 @@ impl fmt::Display for Stop {
 
     fn fmt<W: fmt::Write>(&self, f: &mut fmt::Formatter<W>) -> fmt::Result {
         f.write_str(match self {
-            Stop::Refused(_) => "the pool could not be opened",
-            Stop::NoMemory => "no memory for the answers",
+            Self::Refused(_) => "the pool could not be opened",
+            Self::NoMemory => "no memory for the answers",
         })
     }
 }

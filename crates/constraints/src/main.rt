@@ -4,6 +4,7 @@
 
 use anyhow::Context;
 use intake::report::take_line;
+use rules::limits::Limits;
 use rules::range::RangeRule;
 use std::io;
 use store::reading::ReadingStore;
@@ -13,8 +14,7 @@ use table::TableStore;
 // An entry of the table, with the limits that the house sets it.
 struct Constraint {
     label: &'static str,
-    smallest: i64,
-    largest: i64,
+    limits: Limits,
 }
 
 const ENTRIES: usize = 4;
@@ -25,24 +25,32 @@ const CONSTRAINTS: [Constraint; ENTRIES] = [
     // From 1 ns to 1 µs: a clock between 1 GHz and 1 MHz.
     Constraint {
         label: "clock period",
-        smallest: 1_000_000,
-        largest: 1_000_000_000,
+        limits: Limits {
+            smallest: 1_000_000,
+            largest: 1_000_000_000,
+        },
     },
     // At most 500 ps: more margin than that would hide a bad clock.
     Constraint {
         label: "clock uncertainty",
-        smallest: 0,
-        largest: 500_000,
+        limits: Limits {
+            smallest: 0,
+            largest: 500_000,
+        },
     },
     Constraint {
         label: "input delay",
-        smallest: -10_000_000,
-        largest: 10_000_000,
+        limits: Limits {
+            smallest: -10_000_000,
+            largest: 10_000_000,
+        },
     },
     Constraint {
         label: "output delay",
-        smallest: -10_000_000,
-        largest: 10_000_000,
+        limits: Limits {
+            smallest: -10_000_000,
+            largest: 10_000_000,
+        },
     },
 ];
 
@@ -71,7 +79,7 @@ fn run(rt: &HostRuntime) -> anyhow::Result<()> {
 fn house_rule() -> anyhow::Result<RangeRule> {
     let mut rule = RangeRule::new();
     for (entry, constraint) in CONSTRAINTS.iter().enumerate() {
-        rule.set(entry, constraint.smallest, constraint.largest)
+        rule.set(entry, constraint.limits)
             .context(constraint.label)?;
     }
     Ok(rule)
