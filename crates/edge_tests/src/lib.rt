@@ -1,0 +1,18 @@
+// Tests that reach every refusal by a call, and hold every order of two that can both apply; a refused call has to leave all as it was.
+// Also the edge cases of the crate `edges`, made to happen.
+#![tactic(auto)]
+
+#[cfg(test)]
+mod edges;
+#[cfg(test)]
+mod opening;
+#[cfg(test)]
+mod orders;
+#[cfg(test)]
+mod rules;
+#[cfg(test)]
+mod seen;
+#[cfg(test)]
+mod serials;
+#[cfg(test)]
+mod stores;

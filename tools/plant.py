@@ -1,0 +1,139 @@
+#!/usr/bin/env python3
+"""Plants the bugs of a list one at a time in a copy of the repository, and says what becomes of each.
+
+    tools/plant.py tools/planted.txt COPY OUTCOMES [CRATE..]
+
+A bug is a block of lines: name, crate, what (the bug in words), file (in the crate), and one or more pairs of old and new. A text is one line,
+in which \\n stands for the end of a line; each old text stands in its file exactly once. The bug's crate is checked first, and where it proves,
+the crates above it; where those prove too, the tests of all crates are run. COPY is made from the folder above this one, and kept between runs.
+"""
+import os
+import re
+import subprocess
+import sys
+import time
+
+TOP = os.path.dirname(os.path.dirname(os.path.abspath(__file__)))
+
+
+def blocks(path):
+    bug = None
+    for line in open(path, encoding="utf-8"):
+        line = line.rstrip("\n")
+        if not line.strip() or line.startswith("#"):
+            continue
+        key, text = line.split(": ", 1) if ": " in line else (line.rstrip(":"), "")
+        if key == "name":
+            if bug:
+                yield bug
+            bug = {"name": text, "pairs": []}
+        elif key == "old":
+            bug["pairs"].append([text.replace("\\n", "\n"), None])
+        elif key == "new":
+            bug["pairs"][-1][1] = text.replace("\\n", "\n")
+        else:
+            bug[key] = text
+    if bug:
+        yield bug
+
+
+def crates(top):
+    deps = {}
+    for line in open(os.path.join(top, "crates.txt"), encoding="utf-8"):
+        line = line.split("#")[0].strip()
+        if line:
+            name, rest = line.split(":")
+            deps[name.split()[0]] = rest.split()
+    return deps
+
+
+def above(deps, crate):
+    found, order = {crate}, []
+    for name in deps:
+        if name not in found and found & set(deps[name]):
+            found.add(name)
+            order.append(name)
+    return order
+
+
+def rt(copy, crate, command):
+    lock = os.environ.get("PLANT_LOCK")
+    call = ["flock", lock] if lock else []
+    folder = os.path.join(copy, "crates", crate)
+    run = subprocess.run(call + ["rt", command], cwd=folder, stdout=subprocess.PIPE, stderr=subprocess.STDOUT, text=True)
+    return run.returncode, run.stdout
+
+
+TELLS = re.compile(r"error|it is not proved|no proof|not proved|does not|FAIL|fail|panick|assert")
+
+
+def first_line(log):
+    for line in log.splitlines():
+        if re.match(r"(fn|impl|enum|checked|rt:|library|statements|crate|logic|help:|    )", line) and "error" not in line:
+            continue
+        if TELLS.search(line):
+            return line.strip()
+    for line in log.splitlines():
+        if "not proved" in line or "no proof" in line:
+            return line.strip()
+    return (log.strip().splitlines() or ["no output"])[-1]
+
+
+def has_tests(copy, crate):
+    for folder, _, files in os.walk(os.path.join(copy, "crates", crate, "src")):
+        for name in files:
+            if name.endswith(".rt") and "#[test]" in open(os.path.join(folder, name), encoding="utf-8").read():
+                return True
+    return False
+
+
+def outcome(copy, deps, bug, logs):
+    path = os.path.join(copy, "crates", bug["crate"], bug["file"])
+    before = open(path, encoding="utf-8").read()
+    text = before
+    for old, new in bug["pairs"]:
+        if text.count(old) != 1:
+            return "does not fit", bug["crate"], "stands %d times: %s" % (text.count(old), old)
+        text = text.replace(old, new)
+    try:
+        open(path, "w", encoding="utf-8").write(text)
+        subprocess.run(["rt", "fmt"], cwd=os.path.join(copy, "crates", bug["crate"]), stdout=subprocess.DEVNULL, stderr=subprocess.DEVNULL)
+        for crate in [bug["crate"]] + above(deps, bug["crate"]):
+            status, log = rt(copy, crate, "check")
+            logs.write("==== %s: check %s\n%s\n" % (bug["name"], crate, log))
+            if status == 1:
+                line = first_line(log)
+                is_code = re.search(r"error\[|error: expected", line)
+                return ("does not compile" if is_code else "refused by the proof"), crate, line
+            if status != 0:
+                return "no verdict", crate, first_line(log)
+        for crate in deps:
+            if has_tests(copy, crate):
+                status, log = rt(copy, crate, "test")
+                logs.write("==== %s: test %s\n%s\n" % (bug["name"], crate, log))
+                if status != 0:
+                    return "caught only by a test", crate, first_line(log)
+        return "caught by nothing", "-", "-"
+    finally:
+        open(path, "w", encoding="utf-8").write(before)
+
+
+def main():
+    listed, copy, outcomes, only = sys.argv[1], os.path.abspath(sys.argv[2]), sys.argv[3], sys.argv[4:]
+    if not os.path.isdir(copy):
+        subprocess.run(["cp", "-r", TOP, copy], check=True)
+    deps = crates(copy)
+    done = set()
+    if os.path.exists(outcomes):
+        done = {line.split("\t")[0] for line in open(outcomes, encoding="utf-8")}
+    for bug in blocks(listed):
+        if bug["name"] in done or (only and bug["crate"] not in only):
+            continue
+        start = time.time()
+        with open(outcomes + ".log", "a", encoding="utf-8") as logs:
+            what, where, line = outcome(copy, deps, bug, logs)
+        with open(outcomes, "a", encoding="utf-8") as out:
+            out.write("\t".join([bug["name"], bug["crate"], what, where, line, "%d s" % (time.time() - start)]) + "\n")
+
+
+main()
