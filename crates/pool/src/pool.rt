@@ -59,14 +59,14 @@ impl<S: WritingStore, R: HouseRule> Pool<S, R> {
     pub fn holds(&self, seat: usize, entry: usize) -> bool
         ensures { result ≡ (nat_lt seat 16 && nat_lt entry 64 && holds (row_at self.now.table entry) seat) }
     {
-        Seat::of(seat).is_some_and(|seat| entry < 64 && self.table.rows[entry].is_held_by(seat))
+        Seat::new(seat).is_some_and(|seat| entry < 64 && self.table.rows[entry].is_held_by(seat))
     }
 
     // Whether the seat has voted on the entry.
     pub fn has_voted(&self, seat: usize, entry: usize) -> bool
         ensures { result ≡ (nat_lt seat 16 && nat_lt entry 64 && has (row_at self.now.table entry).voted seat) }
     {
-        Seat::of(seat).is_some_and(|seat| entry < 64 && self.table.rows[entry].has_vote_of(seat))
+        Seat::new(seat).is_some_and(|seat| entry < 64 && self.table.rows[entry].has_vote_of(seat))
     }
 
     // Withdraws all that is staged, keeps the chains and sets every seat idle with serial 0.

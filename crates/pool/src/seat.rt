@@ -10,7 +10,7 @@ pub struct Seat {
 
 impl Seat {
     // The seat of this number, where a pool may have it.
-    pub fn of(number: usize) -> Option<Seat>
+    pub fn new(number: usize) -> Option<Seat>
         ensures { MatchOption result (nat_lt number 16 ≡ false) (λ seat. (nat_lt number 16 ≡ true) × (seat.number ≡ number)) }
     {
         if number < 16 {

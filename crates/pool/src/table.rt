@@ -59,7 +59,7 @@ impl Table {
         ensures { MatchOption result (has_seat self.now number ≡ false) (λ seat. (has_seat self.now number ≡ true) × (seat.number ≡ number)) }
     {
         if number < self.seats {
-            Seat::of(number)
+            Seat::new(number)
         } else {
             None
         }

@@ -35,7 +35,7 @@ pub(crate) fn edit_of<S: WritingStore, R: HouseRule>(
     ensures { MatchOption result (state_of pool.now.table seat serial ≡ Idle) (λ edit. (edit.seat.number ≡ seat) × (edit.state ≡ state_of pool.now.table seat serial)) }
 {
     let place = pool.place(seat)?;
-    let seat = Seat::of(seat)?;
+    let seat = Seat::new(seat)?;
     if place.serial != serial {
         return None;
     }
