@@ -1,4 +1,5 @@
-// The calls that are left of an edit. Each function here makes some of them, in their order.
+// The calls that are left of an edit. Each function here makes some of them, in their order. Pool and seat stay two parameters:
+// a struct with the `&mut Pool` in it would put two names into every contract where now one stands.
 ghost use Rattle.std.specs.Prelude.{◌≡◌, ◌<◌, MatchOption};
 ghost use Rattle.calls.specs.declared.state.State.TheVariants.{Idle};
 ghost use Rattle.law.specs.Histories.{said};
