@@ -9,7 +9,7 @@ use Rattle.std.proofs.lemmas.Bool.{lt-ltb, le-ltb, cond-true, cond-false, cases_
 use Rattle.store.specs.declared.version.Version.{Version}
 use Rattle.store.specs.Meaning.{opening, Readable, Writable}
 use Rattle.table.specs.declared.TableStore.{TableStore}
-use Rattle.table.specs.Table.{Table, len, chain, beside}
+use Rattle.table.specs.Table.{Table, row, len, chain, beside}
 use Rattle.table.specs.Stores.{table_of, table_reading, table_writing, memory}
 
 -- n cells from the first of entry e on end before the first of entry m
@@ -34,7 +34,7 @@ module _ (s : TableStore) where
 
   -- the cells of a chain are within the memory
   chain_ends : (e : ℕ) → e < s.entries → e * s.depth + len t e ≤ length (memory s)
-  chain_ends e inside = omega (arith, row_ends s.depth e (len t e) s.entries inside (s.rows e inside).1, s.room)
+  chain_ends e inside = omega (arith, row_ends s.depth e (len t e) s.entries inside (s.sound e inside).most, s.room)
 
   pub chain_length : (e : ℕ) → e < s.entries → length (chain t e) ≡ len t e
   chain_length e inside =
@@ -64,9 +64,9 @@ module _ (s : TableStore) where
 
   pub version_first : (e : ℕ) → e < s.entries → slice_index_or (chain t e) 0 opening ≡ opening
   version_first e inside =
-      cell_at e 0 opening inside (s.rows e inside).0
+      cell_at e 0 opening inside (s.sound e inside).least
       ∙ ap (λ i. get_or (memory s) i opening) (add-zero (e * s.depth))
-      ∙ (s.rows e inside).2
+      ∙ (s.sound e inside).first
 
   -- something is staged only beside a chain with room for it
   pub beside_room : (e : ℕ) → is_some (beside t e) ≡ true → length (chain t e) < s.depth
@@ -75,7 +75,7 @@ module _ (s : TableStore) where
       (λ inside. omega (
         arith,
         chain_length e inside,
-        (s.rows e inside).3 (ap is_some (sym (cond-true (nat_lt e s.entries) (slice_index_or s.staged e None) None (lt-ltb e s.entries inside))) ∙ found),
+        (s.sound e inside).room (ap is_some (sym (cond-true (nat_lt e s.entries) (row t e).staged None (lt-ltb e s.entries inside))) ∙ found),
       ))
       (λ past. absurd (both_ways _ (ap is_some (beside_past t e past)) found))
       (cases_lt e s.entries)
@@ -87,9 +87,9 @@ table_readable s = record {
   depth_least = s.deep;
   reach_least = omega arith;
   reach_most = omega arith;
-  chain_least = λ e inside. omega (arith, chain_length s e inside, (s.rows e inside).0);
+  chain_least = λ e inside. omega (arith, chain_length s e inside, (s.sound e inside).least);
   chain_most = λ e. ⊎_elim
-      (λ inside. omega (arith, chain_length s e inside, (s.rows e inside).1))
+      (λ inside. omega (arith, chain_length s e inside, (s.sound e inside).most))
       (λ past. omega (arith, ap length (chain_past (table_of s) e past)))
       (cases_lt e s.entries);
   chain_first = version_first s;
