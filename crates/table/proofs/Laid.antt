@@ -38,15 +38,14 @@ module _ {Z : Type 0} (v : Vec Version Z) (cells : List Version) (m d : ℕ) (op
   laid_room = omega (arith, ap length is, opened_length v.items m d, v.ok.0)
 
   laid_row : (e : ℕ) → e < m → row (laid now m d) e ≡ record { len = 1; staged = None }
-  laid_row e inside = get_or-replicate 64 e (record { len = 1; staged = None }) (record { len = 0; staged = None }) (omega arith)
+  laid_row e inside = get_or-replicate 64 e _ _ (omega arith)
 
   first_within : (e : ℕ) → e < m → e * d < length now
   first_within e inside = omega (arith, row_ends d e 1 m inside (omega arith), laid_room)
 
   first : (e : ℕ) → e < m → get_or now (e * d) opening ≡ opening
   first e inside =
-      let opens = opened_first v.items m d e inside (omega (arith, first_within e inside, ap length is, opened_length v.items m d)) in
-      ap (λ cells. get_or cells (e * d) opening) is ∙ opens
+      rw is (opened_first v.items m d e inside (omega (arith, first_within e inside, ap length is, opened_length v.items m d)))
 
   pub laid_sound : (e : ℕ) → e < m → IsSound (laid now m d) e
   laid_sound e inside =

@@ -1,14 +1,13 @@
 -- What staging and publishing do to a table: its meaning after them, and that its entries are still sound.
-use Rattle.std.proofs.Common.{◌≡◌, ℕ, ◌+◌, ◌-◌, ◌*◌, ◌<◌, ◌≤◌, cond, eqb, true, ◌≢◌, List, [], ◌∷◌, ◌++◌, length, get_or, take, drop, set, is_some, Some, None, Ok, Option, sym, ap, ◌∙◌, ⊎_elim, arith, rules, length-drop, get_or-set_other, drop-set-lt}
+use Rattle.std.proofs.Common.{◌≡◌, ℕ, ◌+◌, ◌-◌, ◌*◌, ◌<◌, ◌≤◌, cond, eqb, true, ◌≢◌, List, [], ◌∷◌, ◌++◌, length, get_or, take, drop, set, is_some, Some, None, Ok, Option, sym, ap, ◌∙◌, ⊎_elim, arith, rules, length-drop, drop-set-lt}
 use mathlib.Core.Path.{fun_ext}
 use lib.Seq.{drop-set-add, take-set-le}
-use Rattle.std.proofs.lemmas.Grind.{common_steps}
-use Rattle.std.proofs.lemmas.Nat.{mul-le}
+use Rattle.std.proofs.lemmas.Grind.{common_steps, rows}
 use Rattle.std.proofs.lemmas.List.{take_more_set}
 use Rattle.std.proofs.lemmas.Bool.{cases_lt}
 use Rattle.store.specs.declared.version.Version.{Version}
 use Rattle.store.specs.Meaning.{opening}
-use Rattle.store.specs.Steps.{Stages, Publishes, spend_answer, stage_answer, is_author, within, with_staged, with_published}
+use Rattle.store.specs.Steps.{Stages, Publishes, Withdraws, spend_answer, stage_answer, is_author, within, with_staged, with_published}
 use Rattle.table.specs.declared.TableStore.{TableStore}
 use Rattle.table.specs.declared.Row.{Row}
 use Rattle.table.specs.Table.{Table, table, row, row_answer, IsSound, len, chain, beside, reach, writing_of}
@@ -27,7 +26,9 @@ grown t e r v = table (set t.cells (e * t.depth + r.len) v) t.entries t.depth (s
 write_behind : (cells : List Version) (a n p : ℕ) (v : Version) → a + n ≤ p → take n (drop a (set cells p v)) ≡ take n (drop a cells)
 write_behind cells a n p v behind =
     let at : p ≡ a + (p - a) = omega arith in
-    ap (λ q. take n (drop a (set cells q v))) at ∙ ap (take n) (drop-set-add a cells (p - a) v) ∙ take-set-le n (drop a cells) (p - a) v (omega arith)
+    let put = drop-set-add a cells (p - a) v in
+    let kept = take-set-le n (drop a cells) (p - a) v (omega arith) in
+    grind (arith, common_steps)
 
 module _ (s : TableStore) (e : ℕ) (long : s.entries ≤ length s.rows) where
   abbrev t : Table
@@ -40,14 +41,22 @@ module _ (s : TableStore) (e : ℕ) (long : s.entries ≤ length s.rows) where
     beside_restaged : (o : Option Version) (k : ℕ) → beside (restaged t e o) k ≡ cond (eqb k e) o (beside t k)
     beside_restaged o k = grind (arith, common_steps)
 
+    pub restaged_means : (o : Option Version) → writing_of (restaged t e o) ≡ with_staged (writing_of t) e o
+    restaged_means o =
+        let chains = fun_ext (chain_restaged o) in
+        let besides = fun_ext (beside_restaged o) in
+        cc
+
     pub stages : (v : Version) → is_author v ≡ true → within reach v.value ≡ true → len t e < s.depth → Stages (table_writing s) e v (Ok tt) (writing_of (restaged t e (Some v)))
     stages v author near short =
         let counted = chain_length s e inside in
         let answer : Ok tt ≡ stage_answer (table_writing s) e v = search rules in
-        let chains = fun_ext (chain_restaged (Some v)) in
-        let besides = fun_ext (beside_restaged (Some v)) in
-        let means : writing_of (restaged t e (Some v)) ≡ with_staged (writing_of t) e (Some v) = cc in
-        record { answer = answer; leaves = simp (sym answer) means }
+        record { answer = answer; leaves = simp (sym answer) (restaged_means (Some v)) }
+
+    pub withdraws : is_some (row t e).staged ≡ true → Withdraws (table_writing s) e (Ok tt) (writing_of (restaged t e None))
+    withdraws staged =
+        let answer : Ok tt ≡ spend_answer (table_writing s) e = grind (arith, common_steps) in
+        record { answer = answer; leaves = simp (sym answer) (restaged_means None) }
 
   module _ (r : Row) (v : Version) (is : Ok r ≡ row_answer t e) (staged : r.staged ≡ Some v) where
     inside : e < s.entries
@@ -99,14 +108,11 @@ module _ (s : TableStore) (e : ℕ) (long : s.entries ≤ length s.rows) where
 
     -- the new version is no entry's first
     first_kept : (k : ℕ) → k < s.entries → get_or (set (memory s) next v) (k * s.depth) opening ≡ opening
-    first_kept k there = get_or-set_other (memory s) next (k * s.depth) v opening apart ∙ (s.sound k there).first
-      where
-        apart : k * s.depth ≢ next
-        apart same =
-            ⊎_elim
-            (λ after. omega (arith, row_ends s.depth e (r.len + 1) k after (omega (arith, short))))
-            (λ before. omega (arith, mul-le k s.depth e s.depth before (omega arith), least))
-            (cases_lt e k)
+    first_kept k there =
+        let first = (s.sound k there).first in
+        let least = least in
+        let short = short in
+        grind (arith, common_steps, rows)
 
     pub grown_sound : (k : ℕ) → k < s.entries → IsSound (grown t e r v) k
     grown_sound k there =

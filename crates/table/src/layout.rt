@@ -3,7 +3,7 @@ ghost use Rattle.store.specs.Steps.{unless_refused};
 ghost use Rattle.table.specs.Layout.{lay_answer, opened, laid_out};
 ghost use Rattle.table.specs.Stores.{table_writing, memory};
 
-use crate::{LEAST_DEPTH, MOST_DEPTH, MOST_ENTRIES, OPENED, TableStore};
+use crate::{LEAST_DEPTH, MOST_DEPTH, MOST_ENTRIES, Row, TableStore};
 use store::refusal::Refusal;
 use store::version::{OPENING, Version};
 
@@ -17,13 +17,12 @@ impl TableStore {
             cells,
             entries: 0,
             depth: LEAST_DEPTH,
-            rows: [OPENED; MOST_ENTRIES],
+            rows: [Row::OPENED; MOST_ENTRIES],
         }
     }
 
     // Gives the store so many entries of such a depth, each with the opening version alone. What was staged is dropped.
     // Refused, in this order, for a size out of bounds and for fewer than entries × depth cells.
-    #[tactic(auto, using(crate::proofs::Laid::opened_length))]
     pub fn lay_out(&mut self, entries: usize, depth: usize) -> Result<(), Refusal>
         ensures answer { result ≡ lay_answer (length (memory self.old)) entries depth }
         ensures means { table_writing self.new ≡ unless_refused result (laid_out entries depth) (table_writing self.old) }
@@ -38,7 +37,7 @@ impl TableStore {
         open_chains(&mut self.cells, entries, depth);
         self.entries = entries;
         self.depth = depth;
-        self.rows = [OPENED; MOST_ENTRIES];
+        self.rows = [Row::OPENED; MOST_ENTRIES];
         Ok(())
     }
 

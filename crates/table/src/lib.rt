@@ -29,15 +29,16 @@ struct Row {
     staged: Option<Version>,
 }
 
-// An entry just laid out: the opening version alone, and nothing staged.
-const OPENED: Row = Row {
-    len: 1,
-    staged: None,
-};
+impl Row {
+    // Of an entry just laid out: the opening version alone, and nothing staged.
+    const OPENED: Row = Row {
+        len: 1,
+        staged: None,
+    };
+}
 
-// The chains lie in the cells, entry after entry.
-// Only the first `entries` rows count. The array has a fixed length, and they are counted beside it, so that laying out
-// takes no memory.
+// The chains lie in the cells, entry after entry. Only the first `entries` rows count: they are an array of fixed length,
+// with their number beside it, so that laying out takes no memory and cannot run out of it.
 #[derive(Drop)]
 pub struct TableStore {
     cells: Vec<Version>,

@@ -29,10 +29,6 @@ impl ReadingStore for TableStore {
 
     #[tactic(auto, using(crate::specs::Rows::version_place, crate::specs::Rows::version_at))]
     fn version(&self, entry: usize, i: usize) -> Option<Version> {
-        if i < self.chain_len(entry) {
-            Some(self.cells[entry * self.depth + i])
-        } else {
-            None
-        }
+        (i < self.chain_len(entry)).then(|| self.cells[entry * self.depth + i])
     }
 }

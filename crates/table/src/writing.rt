@@ -53,6 +53,7 @@ impl WritingStore for TableStore {
         Ok(())
     }
 
+    #[tactic(auto, using(crate::proofs::Writes::withdraws))]
     fn withdraw(&mut self, entry: usize) -> Result<(), Refusal>
         ensures means { Withdraws (table_writing self.old) entry result (table_writing self.new) }
         ensures cells { memory self.new ≡ memory self.old }
