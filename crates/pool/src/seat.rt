@@ -20,7 +20,7 @@ impl Seat {
         }
     }
 
-    // Its number, as versions and rows have it.
+    // Its number, as versions and rows have it. A cast, which its type proves; `try_from` would leave an error that cannot be.
     pub(crate) fn byte(self) -> u8
         ensures { result ≡ self.number }
     {
