@@ -62,7 +62,8 @@ fn lacks_vote<S: WritingStore, R: HouseRule>(pool: &Pool<S, R>, seat: Seat, entr
     is_holder(pool, seat, entry) && !pool.has_voted(seat.number, entry)
 }
 
-// One loop for this and `finish_all` would need a trait with a law for each kind of call, and be longer than the two.
+// One loop for this and `finish_all` would want a trait of two ghost members, two functions and a law, and an implementation for
+// each: longer than the loop that it would save.
 fn vote_all<S: WritingStore, R: HouseRule>(pool: &mut Pool<S, R>, seat: Seat)
     ensures { Called R.HouseRule.allowed S.ReadingStore.reading S.WritingStore.staged pool.old (λ s. votes s seat.number) pool.new }
 {
