@@ -24,7 +24,7 @@ use Rattle.alone.specs.Runs.{Reached, GoesOn, opened, called, answer_of, after_c
 use Rattle.alone.proofs.Moments.{no, view, Sized, writes_as}
 use Rattle.alone.proofs.Ties.{begin_tied, read_tied, write_tied, prepare_tied, vote_tied, decide_tied, abort_tied, finish_tied, close_tied}
 
-replicate_at : {A : Type 0} (x : A) (n i : ℕ) → get_or (replicate n x) i x ≡ x
+pub replicate_at : {A : Type 0} (x : A) (n i : ℕ) → get_or (replicate n x) i x ≡ x
 replicate_at x zero i = refl
 replicate_at x (suc n) zero = refl
 replicate_at x (suc n) (suc i) = replicate_at x n i

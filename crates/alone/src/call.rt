@@ -9,7 +9,8 @@ use rules::house::HouseRule;
 use store::reading::ReadingStore;
 use store::writing::WritingStore;
 
-// Makes one call on the pool, whichever of the nine it is, and answers what that call answers.
+// Makes one call on the pool, whichever of the nine it is, and answers what that call answers. That the house rule is as it was
+// stands in every such contract: it is no fact about one value, which a type could keep, but about before and after.
 pub fn make<S: WritingStore, R: HouseRule>(pool: &mut Pool<S, R>, call: Call) -> Answer
     ensures answers { result ≡ answer_of (R.HouseRule.allowed pool.old.rule) (at S.ReadingStore.reading S.WritingStore.staged pool.old) call }
     ensures leaves { at S.ReadingStore.reading S.WritingStore.staged pool.new ≡ after_call (R.HouseRule.allowed pool.old.rule) (at S.ReadingStore.reading S.WritingStore.staged pool.old) call }

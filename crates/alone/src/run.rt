@@ -54,13 +54,14 @@ impl From<AllocError> for Stop {
     }
 }
 
-// Makes the calls in their order; the answers come into memory that is there for them.
+// Makes the calls in their order; the answers come into memory that is there for them, so that nothing fails midway.
 fn make_all<S: WritingStore, R: HouseRule>(
     pool: &mut Pool<S, R>,
     calls: &[Call],
     answers: &mut Vec<Answer>,
 )
-    requires { (vec_len answers.old ≡ 0) × (length calls.now ≤ vec_capacity answers.old) }
+    requires empty { vec_len answers.old ≡ 0 }
+    requires room { length calls.now ≤ vec_capacity answers.old }
     ensures each { length answers.new.items ≡ length calls.now }
     ensures goes_on { GoesOn (R.HouseRule.allowed pool.old.rule) (at S.ReadingStore.reading S.WritingStore.staged pool.old) calls.now answers.new.items (at S.ReadingStore.reading S.WritingStore.staged pool.new) }
     ensures rule { pool.new.rule ≡ pool.old.rule }

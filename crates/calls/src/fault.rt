@@ -23,6 +23,7 @@ pub enum Fault {
 }
 
 impl Fault {
+    // Not the number of its case, as a refusal's is: one case carries a refusal, which has a number of its own.
     pub fn number(self) -> u8
         ensures { result ≡ number self }
     {

@@ -79,7 +79,7 @@ fn run(rt: &HostRuntime) -> anyhow::Result<()> {
 fn house_rule() -> anyhow::Result<RangeRule> {
     let mut rule = RangeRule::new();
     for (entry, constraint) in CONSTRAINTS.iter().enumerate() {
-        rule.set(entry, constraint.limits)
+        rule.set_entry(entry, constraint.limits)
             .context(constraint.label)?;
     }
     Ok(rule)

@@ -13,7 +13,7 @@ pub(crate) fn natural(text: &str) -> Option<u64>
     text.parse().ok()
 }
 
-// The number that a text of decimal digits writes, with or without a minus in front.
+// The number that a text of decimal digits writes, with or without a minus in front. `parse` of an `i64` would take a plus, and −2^63.
 #[tactic(auto, using(crate::proofs::Texts::no_minus))]
 pub(crate) fn integer(text: &str) -> Option<i64>
     ensures { result ≡ integer_in text.now }

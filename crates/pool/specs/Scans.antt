@@ -10,11 +10,11 @@ use Rattle.pool.specs.Locks.{holds}
 abbrev pub voted_no : ℕ → Row → Bool
 voted_no p r = has r.against p
 
--- it holds it
+-- the seat holds the entry
 abbrev pub is_holder : ℕ → Row → Bool
 is_holder p r = holds r p
 
--- and has not voted
+-- the seat holds the entry and has not voted on it
 abbrev pub lacks_vote : ℕ → Row → Bool
 lacks_vote p r = holds r p && not (has r.voted p)
 

@@ -59,14 +59,14 @@ impl<S: WritingStore, R: HouseRule> Pool<S, R> {
     pub fn holds(&self, seat: usize, entry: usize) -> bool
         ensures { result ≡ (nat_lt seat 16 && nat_lt entry 64 && holds (row_at self.now.table entry) seat) }
     {
-        Seat::of(seat).is_some_and(|seat| entry < 64 && self.table.rows[entry].is_held_by(seat))
+        Seat::new(seat).is_some_and(|seat| entry < 64 && self.table.rows[entry].is_held_by(seat))
     }
 
     // Whether the seat has voted on the entry.
     pub fn has_voted(&self, seat: usize, entry: usize) -> bool
         ensures { result ≡ (nat_lt seat 16 && nat_lt entry 64 && has (row_at self.now.table entry).voted seat) }
     {
-        Seat::of(seat).is_some_and(|seat| entry < 64 && self.table.rows[entry].has_vote_of(seat))
+        Seat::new(seat).is_some_and(|seat| entry < 64 && self.table.rows[entry].has_vote_of(seat))
     }
 
     // Withdraws all that is staged, keeps the chains and sets every seat idle with serial 0.
@@ -84,7 +84,7 @@ impl<S: WritingStore, R: HouseRule> Pool<S, R> {
     pub fn begin(&mut self, seat: usize) -> Result<u32, Fault>
         ensures { Makes S.ReadingStore.reading S.WritingStore.staged self.old (λ s. begin s seat) result self.new }
     {
-        let Turn { seat, next } = check(&self.table, Step::Begin, seat, true)?;
+        let Turn { seat, next } = self.check(Step::Begin, seat)?;
         let Place { serial, .. } = self.table.places[seat.number];
         if serial >= 1_000_000 {
             return Err(Fault::SerialsUsedUp);
@@ -150,7 +150,7 @@ impl<S: WritingStore, R: HouseRule> Pool<S, R> {
     pub fn decide(&mut self, seat: usize) -> Result<Decision, Fault>
         ensures { Makes S.ReadingStore.reading S.WritingStore.staged self.old (λ s. decide s seat) result self.new }
     {
-        let Turn { seat, next } = check(&self.table, Step::Decide, seat, true)?;
+        let Turn { seat, next } = self.check(Step::Decide, seat)?;
         if self.table.has_no_of(seat) {
             self.table.places[seat.number].state = State::Abort;
             return Ok(Decision::Abort);
@@ -189,7 +189,7 @@ impl<S: WritingStore, R: HouseRule> Pool<S, R> {
     pub fn close(&mut self, seat: usize) -> Result<(), Fault>
         ensures { Makes S.ReadingStore.reading S.WritingStore.staged self.old (λ s. close s seat) result self.new }
     {
-        let Turn { seat, next } = check(&self.table, Step::Close, seat, true)?;
+        let Turn { seat, next } = self.check(Step::Close, seat)?;
         if self.table.has_lock_of(seat) {
             return Err(Fault::LocksRemain);
         }
@@ -201,9 +201,16 @@ impl<S: WritingStore, R: HouseRule> Pool<S, R> {
     fn step(&mut self, step: Step, seat: usize) -> Result<(), Fault>
         ensures { Makes S.ReadingStore.reading S.WritingStore.staged self.old (λ s. only_steps step s seat) result self.new }
     {
-        let Turn { seat, next } = check(&self.table, step, seat, true)?;
+        let Turn { seat, next } = self.check(step, seat)?;
         self.table.places[seat.number].state = next;
         Ok(())
+    }
+
+    // The checks of a call on no entry.
+    fn check(&self, step: Step, seat: usize) -> Result<Turn, Fault>
+        ensures { MatchResult result (λ turn. (passed self.now.table step seat true ≡ Ok turn.next) × (turn.seat.number ≡ seat)) (λ fault. passed self.now.table step seat true ≡ Err fault) }
+    {
+        check(&self.table, step, seat, true)
     }
 
     // The checks of a call on an entry.
@@ -212,6 +219,7 @@ impl<S: WritingStore, R: HouseRule> Pool<S, R> {
     {
         check(&self.table, step, seat, entry < self.store.entries())
     }
+
     // The staged version of an entry, or its last where none is staged.
     fn staged_version(&self, entry: usize) -> Version
         ensures { result.value ≡ staged_value (at S.ReadingStore.reading S.WritingStore.staged self.now) entry }

@@ -10,7 +10,7 @@ pub struct Seat {
 
 impl Seat {
     // The seat of this number, where a pool may have it.
-    pub fn of(number: usize) -> Option<Seat>
+    pub fn new(number: usize) -> Option<Seat>
         ensures { MatchOption result (nat_lt number 16 ≡ false) (λ seat. (nat_lt number 16 ≡ true) × (seat.number ≡ number)) }
     {
         if number < 16 {
@@ -20,7 +20,7 @@ impl Seat {
         }
     }
 
-    // Its number, as versions and rows have it.
+    // Its number, as versions and rows have it. A cast, which its type proves; `try_from` would leave an error that cannot be.
     pub(crate) fn byte(self) -> u8
         ensures { result ≡ self.number }
     {

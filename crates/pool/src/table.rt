@@ -14,7 +14,8 @@ pub struct Place {
     pub serial: u32,
 }
 
-// What the pool keeps of an entry, plain: its lock, and who has voted and who voted no. A mask has one bit for each seat.
+// What the pool keeps of an entry, plain by a rule of the project: its lock, and who has voted and who voted no. A mask has one
+// bit for each seat.
 #[derive(Clone, Copy)]
 pub struct Row {
     pub writer: Option<u8>,
@@ -23,8 +24,8 @@ pub struct Row {
     pub against: u16,
 }
 
-// The inner table. A pool that is not open has no seats. The memory is fixed, so that opening cannot run out of it:
-// the number of seats stands beside room for sixteen.
+// The inner table. The memory is fixed, so that opening cannot run out of it: the number of seats stands beside room for
+// sixteen. A pool that is not open has no seats, which is the whole difference: every call finds no such seat.
 #[derive(Clone, Copy)]
 pub struct Table {
     pub seats: usize,
@@ -59,13 +60,13 @@ impl Table {
         ensures { MatchOption result (has_seat self.now number ≡ false) (λ seat. (has_seat self.now number ≡ true) × (seat.number ≡ number)) }
     {
         if number < self.seats {
-            Seat::of(number)
+            Seat::new(number)
         } else {
             None
         }
     }
 
-    // Whether the seat has voted no on some entry.
+    // Whether the seat has voted no on some entry. Three searches by name: with two of them in `decide`, its proof does not close.
     pub(crate) fn has_no_of(&self, seat: Seat) -> bool
         ensures { result ≡ list_any (voted_no seat.number) self.now.rows }
     {

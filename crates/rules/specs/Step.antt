@@ -6,7 +6,8 @@ use Rattle.store.specs.Steps.{Answer}
 use Rattle.rules.specs.declared.step.Step.{Step}
 use Rattle.rules.specs.Settings.{Sets, entry_allows, entry_allows-at}
 
-abbrev step_of : ℕ → Step
+-- a step by its number
+abbrev pub step_of : ℕ → Step
 step_of n = record { 0 = n }
 
 -- from one end of the values to the other

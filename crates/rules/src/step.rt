@@ -1,9 +1,10 @@
 ghost use Rattle.std.specs.Prelude.{refl};
 ghost use Rattle.std.proofs.Common.{rules};
-ghost use Rattle.rules.specs.Step.{longest_step, step_stands, step_permits};
+ghost use Rattle.rules.specs.Step.{longest_step, step_stands, step_permits, step_of, SetsStep};
 
 use crate::entry_rule::EntryRule;
 use crate::setting::Setting;
+use store::refusal::Refusal;
 
 // The longest step, in femtoseconds: from one end of the values to the other.
 const LONGEST: u64 = 200_000_000_000_000_000;
@@ -36,3 +37,12 @@ impl Setting for Step {
 
 // Says yes to a new value that differs from the last by at most the step of its entry.
 pub type StepRule = EntryRule<Step>;
+
+impl EntryRule<Step> {
+    // Sets the step of an entry. Where it refuses, nothing changes.
+    pub fn set(&mut self, entry: usize, step: u64) -> Result<(), Refusal>
+        ensures { SetsStep self.old.settings entry (step_of step) result self.new.settings }
+    {
+        self.set_entry(entry, Step(step))
+    }
+}

@@ -1,7 +1,6 @@
 use crate::house::HouseRule;
-use crate::limits::Limits;
 use crate::range::RangeRule;
-use crate::step::{Step, StepRule};
+use crate::step::StepRule;
 use std::test::Fail;
 use store::refusal::Refusal;
 
@@ -24,7 +23,7 @@ fn limits_are_set_or_refused(rt: HostRuntime) {
     ];
     let mut rule = RangeRule::new();
     for (entry, smallest, largest, answer) in cases {
-        assert_eq!(rt; rule.set(entry, Limits { smallest, largest }), answer);
+        assert_eq!(rt; rule.set(entry, smallest, largest), answer);
     }
     assert!(rt;
         rule.allows(5, 0, -FAR) && rule.allows(5, 0, FAR),
@@ -35,13 +34,7 @@ fn limits_are_set_or_refused(rt: HostRuntime) {
 #[test]
 fn a_range_is_kept(rt: HostRuntime) -> Result<(), Fail> {
     let mut rule = RangeRule::new();
-    rule.set(
-        63,
-        Limits {
-            smallest: -2,
-            largest: 7,
-        },
-    )?;
+    rule.set(63, -2, 7)?;
     let cases = [
         (63, -3, false),
         (63, -2, true),
@@ -75,7 +68,7 @@ fn steps_are_set_or_refused(rt: HostRuntime) {
     ];
     let mut rule = StepRule::new();
     for (entry, step, answer) in cases {
-        assert_eq!(rt; rule.set(entry, Step(step)), answer);
+        assert_eq!(rt; rule.set(entry, step), answer);
     }
     assert!(rt; rule.allows(5, -FAR, FAR), "a refused step changes nothing");
 }
@@ -83,8 +76,8 @@ fn steps_are_set_or_refused(rt: HostRuntime) {
 #[test]
 fn a_step_is_kept(rt: HostRuntime) -> Result<(), Fail> {
     let mut rule = StepRule::new();
-    rule.set(1, Step(5))?;
-    rule.set(2, Step(0))?;
+    rule.set(1, 5)?;
+    rule.set(2, 0)?;
     let cases = [
         (1, 10, 4, false),
         (1, 10, 5, true),

@@ -14,7 +14,7 @@ pub fn chain_text<S: ReadingStore>(
     ensures { IfOk result (λ text. string_bytes text ≡ chain_text ((S.ReadingStore.reading store.now).chains entry)) }
 {
     let mut text = String::new(heap);
-    // By index: of a loop over `filter_map` the proof does not close, since its iterator is not typed at a type parameter.
+    // By index: of a loop over `filter_map` the check refuses its own statement, once the loop has an invariant.
     for i in 0..store.chain_len(entry) {
         if let Some(version) = store.version(entry, i) {
             writeln!(text, "  {version}")?;

@@ -7,7 +7,8 @@ use crate::reading::ReadingStore;
 use crate::refusal::Refusal;
 use crate::version::Version;
 
-// A reading store that can also stage a version beside a chain, and publish it or withdraw it.
+// A reading store that can also stage a version beside a chain, and publish it or withdraw it. Its meaning is two members, the
+// parent's and its own: one for both would be tied to the parent's by a law, which each look at the chains would have to cite.
 // A call that is refused changes nothing.
 pub trait WritingStore: ReadingStore {
     // For each entry, its staged version or none.

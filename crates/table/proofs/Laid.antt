@@ -1,13 +1,15 @@
 -- What a table just laid out holds and means.
-use Rattle.std.proofs.Common.{◌≡◌, ℕ, zero, suc, ◌*◌, ◌<◌, ◌≤◌, cond, ltb, List, [], ◌∷◌, length, get_or, take, drop, set, replicate, is_some, None, sym, refl, ap, ◌∙◌, ⊎_elim, add-zero, arith, length-drop, length-set, get_or-drop, get_or-set_other, get_or-set_same}
+use Rattle.std.proofs.Common.{◌≡◌, ℕ, zero, suc, ◌*◌, ◌<◌, ◌≤◌, cond, ltb, List, [], ◌∷◌, length, get_or, drop, replicate, None, refl, ap, ◌∙◌, arith, length-set, get_or-drop}
+use Rattle.std.specs.Prelude.{Vec}
+use Rattle.std.specs.Vec.{with_items}
 use mathlib.Core.Path.{fun_ext}
-use Rattle.std.proofs.lemmas.List.{take_more, get_or-replicate}
-use Rattle.std.proofs.lemmas.Bool.{both_ways, cond-true, cond-false, lt-ltb, le-ltb, cases_eq, cases_lt}
+use Rattle.std.proofs.lemmas.Grind.{common_steps}
+use Rattle.std.proofs.lemmas.List.{take_more, with_items_is, get_or-replicate}
 use Rattle.store.specs.declared.version.Version.{Version}
 use Rattle.store.specs.Meaning.{opening}
-use Rattle.table.specs.Table.{Table, table, Row, len, chain, beside, reach, writing_of}
+use Rattle.table.specs.Table.{Table, table, row, IsSound, chain, beside, writing_of}
 use Rattle.table.specs.Layout.{opened, laid_out}
-use Rattle.table.specs.Rows.{row_ends, chain_past, beside_past}
+use Rattle.table.specs.Rows.{row_ends}
 
 pub opened_length : (cells : List Version) (n d : ℕ) → length (opened cells n d) ≡ length cells
 opened_length cells zero d = refl
@@ -16,52 +18,57 @@ opened_length cells (suc n) d = length-set (opened cells n d) (n * d) opening �
 opened_first : (cells : List Version) (n d e : ℕ) → e < n → e * d < length cells → get_or (opened cells n d) (e * d) opening ≡ opening
 opened_first cells zero d e inside within = absurd (omega arith)
 opened_first cells (suc n) d e inside within =
-    ⊎_elim
-    (λ same. ap (λ i. get_or (set (opened cells n d) i opening) (e * d) opening) (sym same) ∙ get_or-set_same (opened cells n d) (e * d) opening opening (omega (arith, opened_length cells n d)))
-    (λ apart. get_or-set_other (opened cells n d) (n * d) (e * d) opening opening apart
-    ∙ ⊎_elim (λ is. absurd (apart (ap (λ k. k * d) is))) (λ other. opened_first cells n d e (omega (arith, other)) within) (cases_eq e n))
-    (cases_eq (e * d) (n * d))
-
-take_one : (xs : List Version) (i : ℕ) (x : Version) → i < length xs → get_or xs i x ≡ x → take 1 (drop i xs) ≡ x ∷ []
-take_one xs i x below is =
-    take_more (drop i xs) 0 x (omega (arith, length-drop i xs)) ∙ ap (λ y. y ∷ []) (get_or-drop i xs 0 x ∙ ap (λ k. get_or xs k x) (add-zero i) ∙ is)
+    let long = opened_length cells n d in
+    let earlier : e < n → get_or (opened cells n d) (e * d) opening ≡ opening = λ before. opened_first cells n d e before within in
+    grind (arith, common_steps)
 
 -- each chain has one version, and nothing is staged
 abbrev pub laid : List Version → ℕ → ℕ → Table
-laid cells m d = table (opened cells m d) m d (replicate 64 1) (replicate 64 None)
+laid now m d = table now m d (replicate 64 (record { len = 1; staged = None }))
 
-module _ (cells : List Version) (m d : ℕ) (few : m ≤ 64) (deep : 2 ≤ d) (room : m * d ≤ length cells) where
-  first_within : (e : ℕ) → e < m → e * d < length cells
-  first_within e inside = omega (arith, row_ends d e 1 m inside (omega arith))
+-- a vector whose cells have become those of a table just laid out
+module _ {Z : Type 0} (v : Vec Version Z) (cells : List Version) (m d : ℕ) (opens : cells ≡ opened v.items m d) (few : m ≤ 64) (deep : 2 ≤ d) (fits : m * d ≤ v.len) where
+  abbrev now : List Version
+  now = (with_items v cells).items
 
-  one_each : (e : ℕ) → e < m → len (laid cells m d) e ≡ 1
-  one_each e inside = get_or-replicate 64 e 1 0 (omega arith)
+  is : now ≡ opened v.items m d
+  is = with_items_is v cells (omega (arith, ap length opens, opened_length v.items m d, v.ok.0)) ∙ opens
 
-  none_each : (e : ℕ) → e < m → get_or (laid cells m d).staged e None ≡ None
-  none_each e inside = get_or-replicate 64 e None None (omega arith)
+  pub laid_room : m * d ≤ length now
+  laid_room = omega (arith, ap length is, opened_length v.items m d, v.ok.0)
 
-  pub laid_rows : (e : ℕ) → e < m → Row (laid cells m d) e
-  laid_rows e inside =
-      let one = one_each e inside in
-      (omega arith, omega arith, opened_first cells m d e inside (first_within e inside), λ found. absurd (both_ways _ (ap is_some (none_each e inside)) found))
+  laid_row : (e : ℕ) → e < m → row (laid now m d) e ≡ record { len = 1; staged = None }
+  laid_row e inside = get_or-replicate 64 e _ _ (omega arith)
 
-  laid_chain : (e : ℕ) → chain (laid cells m d) e ≡ cond (ltb e m) (opening ∷ []) []
+  first_within : (e : ℕ) → e < m → e * d < length now
+  first_within e inside = omega (arith, row_ends d e 1 m inside (omega arith), laid_room)
+
+  first : (e : ℕ) → e < m → get_or now (e * d) opening ≡ opening
+  first e inside =
+      rw is (opened_first v.items m d e inside (omega (arith, first_within e inside, ap length is, opened_length v.items m d)))
+
+  pub laid_sound : (e : ℕ) → e < m → IsSound (laid now m d) e
+  laid_sound e inside =
+      let alone = laid_row e inside in
+      let opens = first e inside in
+      record { least = grind (arith, common_steps); most = grind (arith, common_steps); first = opens; room = grind (arith, common_steps) }
+
+  laid_chain : (e : ℕ) → chain (laid now m d) e ≡ cond (ltb e m) (opening ∷ []) []
   laid_chain e =
-      ⊎_elim
-      (λ inside. ap (λ vs. cond (ltb e m) vs [])
-      (ap (λ n. take n (drop (e * d) (opened cells m d))) (one_each e inside)
-      ∙ take_one (opened cells m d) (e * d) opening (omega (arith, opened_length cells m d, first_within e inside)) (opened_first cells m d e inside (first_within e inside))))
-      (λ past. chain_past (laid cells m d) e past ∙ sym (cond-false (ltb e m) (opening ∷ []) [] (le-ltb e m past)))
-      (cases_lt e m)
+      let alone = laid_row e in
+      let opens = first e in
+      let within = first_within e in
+      let one = take_more (drop (e * d) now) 0 opening in
+      let at = get_or-drop (e * d) now 0 opening in
+      grind (arith, common_steps)
 
-  laid_beside : (e : ℕ) → beside (laid cells m d) e ≡ None
+  laid_beside : (e : ℕ) → beside (laid now m d) e ≡ None
   laid_beside e =
-      ⊎_elim
-      (λ inside. cond-true _ _ _ (lt-ltb e m inside) ∙ none_each e inside)
-      (beside_past (laid cells m d) e)
-      (cases_lt e m)
+      let alone = laid_row e in
+      grind (arith, common_steps)
 
-  pub laid_means : writing_of (laid cells m d) ≡ laid_out m d
+  pub laid_means : writing_of (laid now m d) ≡ laid_out m d
   laid_means =
-      ap (λ f. record { reading = record { entries = m; depth = d; reach = reach; chains = f }; staged = beside (laid cells m d) }) (fun_ext laid_chain)
-      ∙ ap (λ f. record { reading = (laid_out m d).reading; staged = f }) (fun_ext laid_beside)
+      let chains = fun_ext laid_chain in
+      let staged = fun_ext laid_beside in
+      cc

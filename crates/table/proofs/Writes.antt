@@ -1,120 +1,127 @@
--- What staging and publishing do to a table: its meaning after them, and that its rows still hold.
-use Rattle.std.proofs.Common.{◌≡◌, ℕ, ◌+◌, ◌-◌, ◌*◌, ◌<◌, ◌≤◌, cond, eqb, ltb, ◌≢◌, List, [], ◌∷◌, ◌++◌, length, get_or, take, drop, set, is_some, Some, None, Option, sym, refl, ap, ◌∙◌, ⊎_elim, arith, length-drop, get_or-set_other, get_or-set_same, drop-set-lt}
+-- What staging and publishing do to a table: its meaning after them, and that its entries are still sound.
+use Rattle.std.proofs.Common.{◌≡◌, ℕ, ◌+◌, ◌-◌, ◌*◌, ◌<◌, ◌≤◌, cond, eqb, true, ◌≢◌, List, [], ◌∷◌, ◌++◌, length, get_or, take, drop, set, is_some, Some, None, Ok, Option, sym, ap, ◌∙◌, ⊎_elim, arith, rules, length-drop, drop-set-lt}
 use mathlib.Core.Path.{fun_ext}
 use lib.Seq.{drop-set-add, take-set-le}
-use Rattle.std.proofs.lemmas.Nat.{mul-le}
+use Rattle.std.proofs.lemmas.Grind.{common_steps, rows}
 use Rattle.std.proofs.lemmas.List.{take_more_set}
-use Rattle.std.proofs.lemmas.Bool.{lt-ltb, eq-eqb, ne_eqb, cond-true, cond-false, cases_eq, cases_lt, both_ways}
+use Rattle.std.proofs.lemmas.Bool.{cases_lt}
 use Rattle.store.specs.declared.version.Version.{Version}
 use Rattle.store.specs.Meaning.{opening}
-use Rattle.store.specs.Steps.{with_staged, with_last, with_published}
+use Rattle.store.specs.Steps.{Stages, Publishes, Withdraws, spend_answer, stage_answer, is_author, within, with_staged, with_published}
 use Rattle.table.specs.declared.TableStore.{TableStore}
-use Rattle.table.specs.Table.{Table, table, Row, len, chain, beside, reach, reading_of, writing_of}
-use Rattle.table.specs.Stores.{table_of, memory}
-use Rattle.table.specs.Rows.{row_ends, chain_past}
+use Rattle.table.specs.declared.Row.{Row}
+use Rattle.table.specs.Table.{Table, table, row, row_answer, IsSound, len, chain, beside, reach, writing_of}
+use Rattle.table.specs.Stores.{table_of, table_writing, memory}
+use Rattle.table.specs.Rows.{row_ends, chain_length}
 
 -- the table with another staged version, or none, at entry e
 abbrev pub restaged : Table → ℕ → Option Version → Table
-restaged t e o = table t.cells t.entries t.depth t.lens (set t.staged e o)
+restaged t e o = table t.cells t.entries t.depth (set t.rows e (record { len = len t e; staged = o }))
 
--- the table with one more version at the end of the chain of entry e, and nothing staged beside it
-abbrev pub grown : Table → ℕ → Version → Table
-grown t e v = table (set t.cells (e * t.depth + len t e) v) t.entries t.depth (set t.lens e (len t e + 1)) (set t.staged e None)
+-- the table with one more version at the end of the chain of entry e, whose row was r, and nothing staged beside it
+abbrev pub grown : Table → ℕ → Row → Version → Table
+grown t e r v = table (set t.cells (e * t.depth + r.len) v) t.entries t.depth (set t.rows e (record { len = r.len + 1; staged = None }))
 
 -- a write behind the first n cells from a on, or before them, leaves them as they are
 write_behind : (cells : List Version) (a n p : ℕ) (v : Version) → a + n ≤ p → take n (drop a (set cells p v)) ≡ take n (drop a cells)
 write_behind cells a n p v behind =
     let at : p ≡ a + (p - a) = omega arith in
-    ap (λ q. take n (drop a (set cells q v))) at ∙ ap (take n) (drop-set-add a cells (p - a) v) ∙ take-set-le n (drop a cells) (p - a) v (omega arith)
+    let put = drop-set-add a cells (p - a) v in
+    let kept = take-set-le n (drop a cells) (p - a) v (omega arith) in
+    grind (arith, common_steps)
 
-write_before : (cells : List Version) (a n p : ℕ) (v : Version) → p < a → take n (drop a (set cells p v)) ≡ take n (drop a cells)
-write_before cells a n p v before = ap (take n) (drop-set-lt a cells p v before)
-
-module _ (s : TableStore) (e : ℕ) (inside : e < s.entries) (staged_long : s.entries ≤ length s.staged) where
+module _ (s : TableStore) (e : ℕ) (long : s.entries ≤ length s.rows) where
   abbrev t : Table
   t = table_of s
 
-  beside_set : (o : Option Version) (k : ℕ) → beside (restaged t e o) k ≡ cond (eqb k e) o (beside t k)
-  beside_set o k =
-      ⊎_elim
-      (λ (same : k ≡ e). rw same (
-      cond-true _ _ _ (lt-ltb e s.entries inside)
-      ∙ get_or-set_same s.staged e o None (omega arith)
-      ∙ sym (cond-true (eqb e e) o (beside t e) (eq-eqb e e refl))))
-      (λ apart.
-      ap (λ x. cond (ltb k s.entries) x None) (get_or-set_other s.staged e k o None apart)
-      ∙ sym (cond-false (eqb k e) o (beside t k) (ne_eqb k e apart)))
-      (cases_eq k e)
+  module _ (inside : e < s.entries) where
+    chain_restaged : (o : Option Version) (k : ℕ) → chain (restaged t e o) k ≡ chain t k
+    chain_restaged o k = grind (arith, common_steps)
 
-  pub restaged_means : (o : Option Version) → writing_of (restaged t e o) ≡ with_staged (writing_of t) e o
-  restaged_means o = ap (λ f. record { reading = reading_of t; staged = f }) (fun_ext (beside_set o))
+    beside_restaged : (o : Option Version) (k : ℕ) → beside (restaged t e o) k ≡ cond (eqb k e) o (beside t k)
+    beside_restaged o k = grind (arith, common_steps)
 
-  module _ (v : Version) (short : len t e < s.depth) (lens_long : s.entries ≤ length s.lens) where
-    -- the first cell of entry e, and the place of its next version
-    abbrev first : ℕ
-    first = e * s.depth
+    pub restaged_means : (o : Option Version) → writing_of (restaged t e o) ≡ with_staged (writing_of t) e o
+    restaged_means o =
+        let chains = fun_ext (chain_restaged o) in
+        let besides = fun_ext (beside_restaged o) in
+        cc
+
+    pub stages : (v : Version) → is_author v ≡ true → within reach v.value ≡ true → len t e < s.depth → Stages (table_writing s) e v (Ok tt) (writing_of (restaged t e (Some v)))
+    stages v author near short =
+        let counted = chain_length s e inside in
+        let answer : Ok tt ≡ stage_answer (table_writing s) e v = search rules in
+        record { answer = answer; leaves = simp (sym answer) (restaged_means (Some v)) }
+
+    pub withdraws : is_some (row t e).staged ≡ true → Withdraws (table_writing s) e (Ok tt) (writing_of (restaged t e None))
+    withdraws staged =
+        let answer : Ok tt ≡ spend_answer (table_writing s) e = grind (arith, common_steps) in
+        record { answer = answer; leaves = simp (sym answer) (restaged_means None) }
+
+  module _ (r : Row) (v : Version) (is : Ok r ≡ row_answer t e) (staged : r.staged ≡ Some v) where
+    inside : e < s.entries
+    inside = grind (arith, common_steps)
+
+    at : r ≡ row t e
+    at = grind (arith, common_steps)
+
+    least : 1 ≤ r.len
+    least = simp at (s.sound e inside).least
+
+    pub short : r.len < s.depth
+    short = simp at ((s.sound e inside).room (ap is_some (ap (λ x. x.staged) (sym at) ∙ staged)))
 
     abbrev next : ℕ
-    next = first + len t e
+    next = e * s.depth + r.len
 
-    chain_grown : chain (grown t e v) e ≡ chain t e ++ v ∷ []
-    chain_grown =
-        let row = drop first (memory s) in
-        let room : len t e < length row = omega (arith, length-drop first (memory s), row_ends s.depth e s.depth s.entries inside (omega arith), s.room) in
-        let is = lt-ltb e s.entries inside in
-        cond-true _ _ _ is
-        ∙ ap (λ n. take n (drop first (set (memory s) next v))) (get_or-set_same s.lens e (len t e + 1) 0 (omega arith))
-        ∙ ap (take (len t e + 1)) (drop-set-add first (memory s) (len t e) v)
-        ∙ take_more_set row (len t e) v room
-        ∙ ap (λ vs. vs ++ v ∷ []) (sym (cond-true (ltb e s.entries) (take (len t e) row) [] is))
+    beside_grown : (k : ℕ) → beside (grown t e r v) k ≡ cond (eqb k e) None (beside t k)
+    beside_grown k = grind (arith, common_steps, inside)
 
-    row_kept : (k : ℕ) → (k ≡ e → ⊥) → k < s.entries → take (len t k) (drop (k * s.depth) (set (memory s) next v)) ≡ take (len t k) (drop (k * s.depth) (memory s))
-    row_kept k apart within =
+    row_kept : (k : ℕ) → k ≢ e → k < s.entries → take (len t k) (drop (k * s.depth) (set (memory s) next v)) ≡ take (len t k) (drop (k * s.depth) (memory s))
+    row_kept k apart there =
         ⊎_elim
-        (λ before. write_behind (memory s) (k * s.depth) (len t k) next v (omega (arith, row_ends s.depth k (len t k) e before (s.rows k within).1)))
-        (λ after. write_before (memory s) (k * s.depth) (len t k) next v (omega (arith, row_ends s.depth e (len t e + 1) k (omega (arith, apart)) (omega arith))))
+        (λ before. write_behind (memory s) (k * s.depth) (len t k) next v (omega (arith, row_ends s.depth k (len t k) e before (s.sound k there).most)))
+        (λ after. ap (take (len t k)) (drop-set-lt (k * s.depth) (memory s) next v (omega (arith, row_ends s.depth e (r.len + 1) k (omega (arith, apart)) (omega (arith, short))))))
         (cases_lt k e)
 
-    chain_kept : (k : ℕ) → (k ≡ e → ⊥) → chain (grown t e v) k ≡ chain t k
-    chain_kept k apart =
-        ⊎_elim
-        (λ within. ap (λ vs. cond (ltb k s.entries) vs [])
-        (ap (λ n. take n (drop (k * s.depth) (set (memory s) next v))) (get_or-set_other s.lens e k (len t e + 1) 0 apart) ∙ row_kept k apart within))
-        (λ past. chain_past (grown t e v) k past ∙ sym (chain_past t k past))
-        (cases_lt k s.entries)
+    chain_grown : chain (grown t e r v) e ≡ chain t e ++ v ∷ []
+    chain_grown =
+        let room = row_ends s.depth e s.depth s.entries inside (omega arith) in
+        let put = drop-set-add (e * s.depth) (memory s) r.len v in
+        let more = take_more_set (drop (e * s.depth) (memory s)) r.len v (omega (arith, length-drop (e * s.depth) (memory s), s.room, short)) in
+        grind (arith, common_steps, at, inside)
 
-    chains_grown : (k : ℕ) → chain (grown t e v) k ≡ cond (eqb k e) (chain t e ++ v ∷ []) (chain t k)
+    chains_grown : (k : ℕ) → chain (grown t e r v) k ≡ cond (eqb k e) (chain t e ++ v ∷ []) (chain t k)
     chains_grown k =
-        ⊎_elim
-        (λ (same : k ≡ e). rw same (chain_grown ∙ sym (cond-true (eqb e e) (chain t e ++ v ∷ []) (chain t e) (eq-eqb e e refl))))
-        (λ apart. chain_kept k apart ∙ sym (cond-false (eqb k e) (chain t e ++ v ∷ []) (chain t k) (ne_eqb k e apart)))
-        (cases_eq k e)
+        let kept = row_kept k in
+        grind (arith, common_steps, chain_grown, inside)
 
-    pub grown_means : writing_of (grown t e v) ≡ with_published (writing_of t) e (Some v)
-    grown_means =
-        ap (λ f. record { reading = record { entries = s.entries; depth = s.depth; reach = reach; chains = f }; staged = beside (grown t e v) }) (fun_ext chains_grown)
-        ∙ ap (λ f. record { reading = with_last (reading_of t) e v; staged = f }) (fun_ext (beside_set None))
+    pub publishes : Publishes (table_writing s) e (Ok tt) (writing_of (grown t e r v))
+    publishes =
+        let found : beside t e ≡ Some v = grind (arith, common_steps, at, inside) in
+        let there = inside in
+        let answer : Ok tt ≡ spend_answer (table_writing s) e = search rules in
+        let chains = fun_ext chains_grown in
+        let besides = fun_ext beside_grown in
+        let means : writing_of (grown t e r v) ≡ with_published (writing_of t) e (Some v) = cc in
+        record { answer = answer; leaves = simp (sym answer) (means ∙ ap (with_published (table_writing s) e) (sym found)) }
 
     -- the new version is no entry's first
     first_kept : (k : ℕ) → k < s.entries → get_or (set (memory s) next v) (k * s.depth) opening ≡ opening
-    first_kept k within = get_or-set_other (memory s) next (k * s.depth) v opening apart ∙ (s.rows k within).2
-      where
-        apart : k * s.depth ≢ next
-        apart is =
-            ⊎_elim
-            (λ after. omega (arith, row_ends s.depth e (len t e + 1) k after (omega arith)))
-            (λ before. omega (arith, mul-le k s.depth e s.depth before (omega arith), (s.rows e inside).0))
-            (cases_lt e k)
+    first_kept k there =
+        let first = (s.sound k there).first in
+        let least = least in
+        let short = short in
+        grind (arith, common_steps, rows)
 
-    pub grown_rows : (k : ℕ) → k < s.entries → Row (grown t e v) k
-    grown_rows k within =
-        ⊎_elim
-        (λ (same : k ≡ e).
-        let long : len (grown t e v) k ≡ len t e + 1 = rw same (get_or-set_same s.lens e (len t e + 1) 0 (omega arith)) in
-        let none : get_or (set s.staged e None) k None ≡ None = rw same (get_or-set_same s.staged e None None (omega arith)) in
-        (omega arith, omega arith, first_kept k within, λ found. absurd (both_ways _ (ap is_some none) found)))
-        (λ apart.
-        let long : len (grown t e v) k ≡ len t k = get_or-set_other s.lens e k (len t e + 1) 0 apart in
-        let row = s.rows k within in
-        (omega arith, omega arith, first_kept k within, λ found. omega (arith, long, row.3 (ap is_some (sym (get_or-set_other s.staged e k None None apart)) ∙ found))))
-        (cases_eq k e)
+    pub grown_sound : (k : ℕ) → k < s.entries → IsSound (grown t e r v) k
+    grown_sound k there =
+        let first = first_kept k there in
+        let sound = s.sound k there in
+        let room = short in
+        record {
+          least = grind (arith, common_steps, inside);
+          most = grind (arith, common_steps, inside);
+          first = first;
+          room = grind (arith, common_steps, inside);
+        }

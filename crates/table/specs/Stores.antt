@@ -7,7 +7,7 @@ use Rattle.table.specs.Table.{Table, table, beside, reading_of, writing_of}
 
 -- the table that a store is
 abbrev pub table_of : TableStore → Table
-table_of s = table (vec_items s.cells) s.entries s.depth s.lens s.staged
+table_of s = table (vec_items s.cells) s.entries s.depth s.rows
 
 -- what it means to a reader
 abbrev pub table_reading : TableStore → Reading

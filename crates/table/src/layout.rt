@@ -1,9 +1,9 @@
-ghost use Rattle.std.specs.Prelude.{◌≡◌, ◌*◌, ◌≤◌, length, replicate, None};
+ghost use Rattle.std.specs.Prelude.{◌≡◌, ◌*◌, ◌≤◌, length};
 ghost use Rattle.store.specs.Steps.{unless_refused};
 ghost use Rattle.table.specs.Layout.{lay_answer, opened, laid_out};
 ghost use Rattle.table.specs.Stores.{table_writing, memory};
 
-use crate::{LEAST_DEPTH, MOST_DEPTH, MOST_ENTRIES, TableStore};
+use crate::{LEAST_DEPTH, MOST_DEPTH, MOST_ENTRIES, Row, TableStore};
 use store::refusal::Refusal;
 use store::version::{OPENING, Version};
 
@@ -17,8 +17,7 @@ impl TableStore {
             cells,
             entries: 0,
             depth: LEAST_DEPTH,
-            lens: one_each(),
-            staged: none_each(),
+            rows: [Row::OPENED; MOST_ENTRIES],
         }
     }
 
@@ -29,17 +28,16 @@ impl TableStore {
         ensures means { table_writing self.new ≡ unless_refused result (laid_out entries depth) (table_writing self.old) }
         ensures cells { memory self.new ≡ unless_refused result (opened (memory self.old) entries depth) (memory self.old) }
     {
-        if entries < 1 || entries > MOST_ENTRIES || depth < LEAST_DEPTH || depth > MOST_DEPTH {
+        if !(1..=MOST_ENTRIES).contains(&entries) || !(LEAST_DEPTH..=MOST_DEPTH).contains(&depth) {
             return Err(Refusal::SizeOrSetting);
         }
         if self.cells.len() < entries * depth {
             return Err(Refusal::MemoryTooShort);
         }
         open_chains(&mut self.cells, entries, depth);
-        self.lens = one_each();
-        self.staged = none_each();
         self.entries = entries;
         self.depth = depth;
+        self.rows = [Row::OPENED; MOST_ENTRIES];
         Ok(())
     }
 
@@ -59,25 +57,14 @@ impl TableStore {
     }
 }
 
-// One version in each chain.
-fn one_each() -> [usize; MOST_ENTRIES]
-    ensures { result ≡ replicate 64 1 }
-{
-    [1; MOST_ENTRIES]
-}
-
-// Nothing staged beside any.
-fn none_each() -> [Option<Version>; MOST_ENTRIES]
-    ensures { result ≡ replicate 64 None }
-{
-    [None; MOST_ENTRIES]
-}
-
 // The opening version into the first cell of each entry.
-fn open_chains(cells: &mut Vec<Version>, entries: usize, depth: usize)
-    requires { (2 ≤ depth) × (entries * depth ≤ length cells.old.items) }
-    ensures { cells.new.items ≡ opened cells.old.items entries depth }
+#[tactic(auto, using(crate::proofs::Laid::opened_length, crate::specs::Rows::row_ends))]
+fn open_chains(cells: &mut [Version], entries: usize, depth: usize)
+    requires deep { 2 ≤ depth }
+    requires room { entries * depth ≤ length cells.old }
+    ensures { cells.new ≡ opened cells.old entries depth }
 {
+    // By index: after `chunks_exact_mut` a proof knows how many cells there are, and not what they hold.
     for e in 0..entries {
         cells[e * depth] = OPENING;
     }

@@ -22,19 +22,13 @@ impl ReadingStore for TableStore {
         REACH
     }
 
+    #[tactic(auto, using(crate::specs::Rows::chain_length))]
     fn chain_len(&self, entry: usize) -> usize {
-        if entry < self.entries {
-            self.lens[entry]
-        } else {
-            0
-        }
+        self.row(entry).map_or(0, |row| row.len)
     }
 
+    #[tactic(auto, using(crate::specs::Rows::version_place, crate::specs::Rows::version_at))]
     fn version(&self, entry: usize, i: usize) -> Option<Version> {
-        if i < self.chain_len(entry) {
-            Some(self.cells[entry * self.depth + i])
-        } else {
-            None
-        }
+        (i < self.chain_len(entry)).then(|| self.cells[entry * self.depth + i])
     }
 }

@@ -8,7 +8,6 @@ use anyhow::Context;
 use calls::fault::Fault;
 use moves::{closed_by_hand, look_and_move, move_slack};
 use pool::pool::Pool;
-use rules::limits::Limits;
 use rules::range::RangeRule;
 use std::io;
 use store::reading::ReadingStore;
@@ -36,11 +35,8 @@ fn show(rt: &HostRuntime) -> anyhow::Result<()> {
         .lay_out(ENTRIES, DEPTH)
         .context("the table could not be laid out")?;
     let mut rule = RangeRule::new();
-    let limits = Limits {
-        smallest: -LIMIT,
-        largest: LIMIT,
-    };
-    rule.set(1, limits).context("the limits do not stand")?;
+    rule.set(1, -LIMIT, LIMIT)
+        .context("the limits do not stand")?;
     let mut pool = Pool::new(store, rule);
     pool.open(SEATS).context("the pool could not be opened")?;
     print!(rt; "move 3000000: ")?;

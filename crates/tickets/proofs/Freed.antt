@@ -1,6 +1,6 @@
 -- On a pool that was opened and called, no call of a ticket is refused, and its seat is free afterwards.
-use Rattle.std.proofs.Common.{◌≡◌, ℕ, zero, suc, ◌<◌, ◌≤◌, Bool, true, false, cond, not, ◌&&◌, eqb, ltb, leb, List, [], ◌∷◌, length, get_or, set, replicate, ℤ, is_some, Some, None, Ok, Err, Option, Result, sym, refl, ap, ◌∙◌, subst, ⊎_elim, arith, get_or-set_other, get_or-set_same}
-use Rattle.std.proofs.lemmas.Bool.{and_parts, ltb-true, lt-ltb, not-true, cond-false, cases_eq, cases_lt, or_from, and_right}
+use Rattle.std.proofs.Common.{◌≡◌, ℕ, zero, suc, ◌<◌, ◌≤◌, Bool, true, false, cond, not, ◌&&◌, eqb, ltb, leb, List, [], ◌∷◌, length, get_or, set, ℤ, is_some, Some, None, Ok, Err, Option, Result, sym, refl, ap, ◌∙◌, subst, ⊎_elim, arith, get_or-set_other, get_or-set_same}
+use Rattle.std.proofs.lemmas.Bool.{and_parts, ltb-true, lt-ltb, not-true, cases_eq, cases_lt, or_from, and_right}
 use Rattle.std.specs.List.{list_any}
 use Rattle.calls.specs.declared.call.Call.{Call}
 use Rattle.calls.specs.declared.call.Call.TheVariants as C
@@ -33,7 +33,7 @@ use Rattle.alone.specs.Runs.{Reached, opened, called, after_call}
 use Rattle.alone.proofs.Moments.{no, Sized, passed_ok, next_finish, writes_as}
 use Rattle.alone.proofs.Parts.{stage_ok, spent_entries}
 use Rattle.alone.proofs.Seats.{seat_added, seat_removed}
-use Rattle.alone.proofs.Whole.{held}
+use Rattle.alone.proofs.Whole.{replicate_at, held}
 use Rattle.tickets.specs.Lists.{after_calls, each}
 use Rattle.tickets.specs.Tickets.{votes, finishes, wind_up, conclude, settling, giving_up, Free}
 use Rattle.tickets.proofs.Made.{RowAs, Beside, after-++, by_result, by_test, prepare_beside, abort_beside, decide_beside, vote_elsewhere, finish_elsewhere, wind_up_beside, wind_up_holding, votes_holding, conclude_beside}
@@ -89,11 +89,6 @@ call_past allows s (C.Finish p e) =
 call_past allows s (C.Close p) =
     by_result s (PastAs s) (same_past s) (passed s.table S.Close p true) _ (λ _ _.
     by_test s (PastAs s) (same_past s) (list_any (is_holder p) s.table.rows) _ _ (λ _. same_past s) (λ _. same_past s))
-
-replicate_at : {A : Type 0} (x : A) (n i : ℕ) → get_or (replicate n x) i x ≡ x
-replicate_at x zero i = refl
-replicate_at x (suc n) zero = refl
-replicate_at x (suc n) (suc i) = replicate_at x n i
 
 -- nobody holds a row past the last entry
 abbrev UnusedPast : Moment → Type 0

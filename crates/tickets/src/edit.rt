@@ -24,6 +24,7 @@ pub fn take<S: WritingStore, R: HouseRule>(
 }
 
 // Makes the calls that are left of the edit: it is committed if every vote is yes, and else aborted. The ticket is spent.
+// This and `give_up` differ in the call that they make; one function for both would have a contract by cases.
 pub fn settle<S: WritingStore, R: HouseRule>(pool: &mut Pool<S, R>, ticket: &mut Ticket) -> Fate
     requires { 0 < ticket.old.serial }
     ensures answers { result ≡ settle_fate (R.HouseRule.allowed pool.old.rule) (at S.ReadingStore.reading S.WritingStore.staged pool.old) ticket.old.seat ticket.old.serial }

@@ -3,7 +3,8 @@ ghost use Rattle.tickets.specs.Texts.{fate_text};
 
 use std::fmt;
 
-// What became of an edit. Gone: the seat was idle, missing or at another serial, and nothing was called.
+// What became of an edit. Gone: the seat was idle, missing or at another serial, and nothing was called; an answer like the
+// others, with a name and a text, which a `None` beside a decision would not have.
 #[derive(Clone, Copy, PartialEq, Eq, Debug)]
 pub enum Fate {
     Commit,

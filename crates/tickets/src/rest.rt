@@ -1,4 +1,5 @@
-// The calls that are left of an edit. Each function here makes some of them, in their order.
+// The calls that are left of an edit. Each function here makes some of them, in their order. Pool and seat stay two parameters:
+// a struct with the `&mut Pool` in it would put two names into every contract where now one stands.
 ghost use Rattle.std.specs.Prelude.{◌≡◌, ◌<◌, MatchOption};
 ghost use Rattle.calls.specs.declared.state.State.TheVariants.{Idle};
 ghost use Rattle.law.specs.Histories.{said};
@@ -35,7 +36,7 @@ pub(crate) fn edit_of<S: WritingStore, R: HouseRule>(
     ensures { MatchOption result (state_of pool.now.table seat serial ≡ Idle) (λ edit. (edit.seat.number ≡ seat) × (edit.state ≡ state_of pool.now.table seat serial)) }
 {
     let place = pool.place(seat)?;
-    let seat = Seat::of(seat)?;
+    let seat = Seat::new(seat)?;
     if place.serial != serial {
         return None;
     }
@@ -61,7 +62,8 @@ fn lacks_vote<S: WritingStore, R: HouseRule>(pool: &Pool<S, R>, seat: Seat, entr
     is_holder(pool, seat, entry) && !pool.has_voted(seat.number, entry)
 }
 
-// One loop for this and `finish_all` would need a trait with a law for each kind of call, and be longer than the two.
+// One loop for this and `finish_all` would want a trait of two ghost members, two functions and a law, and an implementation for
+// each: longer than the loop that it would save.
 fn vote_all<S: WritingStore, R: HouseRule>(pool: &mut Pool<S, R>, seat: Seat)
     ensures { Called R.HouseRule.allowed S.ReadingStore.reading S.WritingStore.staged pool.old (λ s. votes s seat.number) pool.new }
 {

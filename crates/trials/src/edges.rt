@@ -4,7 +4,6 @@ use calls::answer::{Answer, Decision};
 use calls::call::Call;
 use calls::fault::Fault;
 use pool::pool::Pool;
-use rules::limits::Limits;
 use rules::range::RangeRule;
 use std::alloc::Global;
 use std::process::Abort;
@@ -54,11 +53,7 @@ fn a_pool(heap: Global) -> Result<Pool<TableStore, RangeRule>, Fail> {
     let mut store = TableStore::over(vec![in heap; OPENING; 4]?);
     store.lay_out(2, 2)?;
     let mut rule = RangeRule::new();
-    let limits = Limits {
-        smallest: -5,
-        largest: 5,
-    };
-    rule.set(1, limits)?;
+    rule.set(1, -5, 5)?;
     Ok(Pool::new(store, rule))
 }
 

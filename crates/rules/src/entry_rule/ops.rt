@@ -17,7 +17,7 @@ impl<T: Setting> EntryRule<T> {
     }
 
     // Sets one entry. Where it refuses, nothing changes.
-    pub fn set(&mut self, entry: usize, setting: T) -> Result<(), Refusal>
+    pub fn set_entry(&mut self, entry: usize, setting: T) -> Result<(), Refusal>
         ensures { Sets T.stands self.old.settings entry setting result self.new.settings }
     {
         // Not by `get_mut`: of an array after it a proof knows the length alone.

@@ -1,32 +1,15 @@
-use Rattle.std.proofs.Common.{◌≡◌, ℕ, ◌*◌, ◌<◌, ◌≤◌, length, vec_items, sym, ap, ◌∙◌, subst, arith, rules}
-use Rattle.table.specs.Table.{table, Table, Row, writing_of}
-use Rattle.table.specs.Stores.{memory}
-use Rattle.table.proofs.Laid.{laid, laid_rows, laid_means, opened_length}
+use Rattle.std.proofs.Common.{arith}
+use Rattle.table.proofs.Laid.{laid_room, laid_sound, laid_means}
 use Rattle.table.proofs.TableStore.lay_out.Goals as goal
 
-pub invariant_of-self : goal.invariant_of-self
-invariant_of-self c =
-    let cells = memory c.args.self.now in
-    let m = c.args.entries in
-    let d = c.args.depth in
-    let few : m ≤ 64 = omega arith in
-    let deep : 2 ≤ d = omega arith in
-    let shallow : d ≤ 200 = omega arith in
-    let room : m * d ≤ length cells = omega (arith, c.len.ensures, c.args.self.now.cells.ok.0) in
-    let still : m * d ≤ length (vec_items c.open_chains.new.cells) = omega (arith, ap length c.open_chains.ensures, opened_length cells m d) in
-    let is : table (vec_items c.open_chains.new.cells) m d c.one_each-self.result c.none_each-self.result ≡ laid cells m d = cc in
-    let rows = subst (λ (t : Table). (e : ℕ) → e < m → Row t e) (sym is) (laid_rows cells m d few deep room) in
-    record { few = few; deep = deep; shallow = shallow; room = still; rows = rows }
+pub invariant_of-self-clause-room : goal.invariant_of-self-clause-room
+invariant_of-self-clause-room c =
+    laid_room c.args.self.now.cells c.open_chains.new.cells c.args.entries c.args.depth (cc) (grind arith) (grind arith) (omega arith)
 
-pub returns : goal.returns
-returns c =
-    let cells = memory c.args.self.now in
-    let m = c.args.entries in
-    let d = c.args.depth in
-    let room : m * d ≤ length cells = omega (arith, c.len.ensures, c.args.self.now.cells.ok.0) in
-    let is : table (vec_items c.open_chains.new.cells) m d c.one_each-self.result c.none_each-self.result ≡ laid cells m d = cc in
-    record {
-      answer = search rules;
-      means = ap writing_of is ∙ laid_means cells m d (omega arith) (omega arith) room;
-      cells = c.open_chains.ensures;
-    }
+pub invariant_of-self-clause-sound : goal.invariant_of-self-clause-sound
+invariant_of-self-clause-sound c =
+    laid_sound c.args.self.now.cells c.open_chains.new.cells c.args.entries c.args.depth (cc) (grind arith) (grind arith) (omega arith)
+
+pub returns-clause-means : goal.returns-clause-means
+returns-clause-means c =
+    laid_means c.args.self.now.cells c.open_chains.new.cells c.args.entries c.args.depth (cc) (grind arith) (grind arith) (omega arith)

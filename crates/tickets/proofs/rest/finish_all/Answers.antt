@@ -1,7 +1,7 @@
 use Rattle.std.proofs.Common.{◌≡◌, sym, ap, ◌∙◌}
 use Rattle.calls.specs.declared.call.Call.TheVariants as C
 use Rattle.pool.specs.Pools.{at}
-use Rattle.pool.specs.Scans.{is_holder, lacks_vote}
+use Rattle.pool.specs.Scans.{is_holder}
 use Rattle.pool.specs.Tables.{Moment, row_at}
 use Rattle.tickets.proofs.Made.{more_made, more_passed, finish_elsewhere}
 use Rattle.tickets.proofs.rest.finish_all.Goals as goal

@@ -1,7 +1,7 @@
 use Rattle.std.proofs.Common.{◌≡◌, ℕ, ◌≤◌}
 use Rattle.calls.specs.declared.call.Call.TheVariants as C
 use Rattle.pool.specs.Pools.{at}
-use Rattle.pool.specs.Scans.{is_holder, lacks_vote}
+use Rattle.pool.specs.Scans.{lacks_vote}
 use Rattle.pool.specs.Tables.{row_at}
 use Rattle.tickets.specs.Lists.{after_calls, each}
 use Rattle.tickets.proofs.rest.vote_all.Given as goal
