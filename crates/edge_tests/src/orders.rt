@@ -4,7 +4,6 @@ use calls::answer::Decision;
 use calls::answer::Reply::{self, Decided, Done, Serial, Value, Voted};
 use calls::call::Call;
 use pool::pool::Pool;
-use rules::limits::Limits;
 use rules::range::RangeRule;
 use std::alloc::Global;
 use std::process::Abort;
@@ -57,13 +56,7 @@ fn a_pool(heap: Global) -> Result<Pool<TableStore, RangeRule>, Fail> {
     let mut table = TableStore::over(vec![in heap; OPENING; 5]?);
     table.lay_out(2, 2)?;
     let mut rule = RangeRule::new();
-    rule.set(
-        1,
-        Limits {
-            smallest: -5,
-            largest: 5,
-        },
-    )?;
+    rule.set(1, -5, 5)?;
     let mut pool = Pool::new(table, rule);
     pool.open(3)?;
     Ok(pool)

@@ -1,7 +1,6 @@
 use rules::house::HouseRule;
-use rules::limits::Limits;
 use rules::range::RangeRule;
-use rules::step::{Step, StepRule};
+use rules::step::StepRule;
 use std::array;
 use std::test::Fail;
 
@@ -16,13 +15,7 @@ fn says<R: HouseRule>(rule: &R, entry: usize) -> [bool; 5] {
 #[test]
 fn limits(rt: HostRuntime) -> Result<(), Fail> {
     let mut rule = RangeRule::new();
-    rule.set(
-        1,
-        Limits {
-            smallest: -5,
-            largest: 5,
-        },
-    )?;
+    rule.set(1, -5, 5)?;
     let before: [[bool; 5]; 65] = array::from_fn(|entry| says(&rule, entry));
     assert_eq!(rt; before[0], [false, true, true, true, false]);
     assert_eq!(rt; before[1], [false, false, true, false, false]);
@@ -39,7 +32,7 @@ fn limits(rt: HostRuntime) -> Result<(), Fail> {
         (0, i64::MAX, i64::MIN, 12),
     ];
     for (entry, smallest, largest, refusal) in cases {
-        let answer = rule.set(entry, Limits { smallest, largest });
+        let answer = rule.set(entry, smallest, largest);
         assert_eq!(rt; answer.map_err(|found| found.number()), Err(refusal));
         let after: [[bool; 5]; 65] = array::from_fn(|entry| says(&rule, entry));
         assert!(rt; after == before, "{smallest} {largest} at {entry}");
@@ -50,7 +43,7 @@ fn limits(rt: HostRuntime) -> Result<(), Fail> {
 #[test]
 fn steps(rt: HostRuntime) -> Result<(), Fail> {
     let mut rule = StepRule::new();
-    rule.set(1, Step(5))?;
+    rule.set(1, 5)?;
     let before: [[bool; 5]; 65] = array::from_fn(|entry| says(&rule, entry));
     assert_eq!(rt; before[0], [true; 5]);
     assert_eq!(rt; before[1], [false, false, true, false, false]);
@@ -63,7 +56,7 @@ fn steps(rt: HostRuntime) -> Result<(), Fail> {
         (0, u64::MAX, 12),
     ];
     for (entry, step, refusal) in cases {
-        let answer = rule.set(entry, Step(step));
+        let answer = rule.set(entry, step);
         assert_eq!(rt; answer.map_err(|found| found.number()), Err(refusal));
         let after: [[bool; 5]; 65] = array::from_fn(|entry| says(&rule, entry));
         assert!(rt; after == before, "{step} at {entry}");

@@ -17,9 +17,8 @@ use calls::call::Call;
 use calls::fault::Fault;
 use pool::pool::Pool;
 use rules::house::HouseRule;
-use rules::limits::Limits;
 use rules::range::RangeRule;
-use rules::step::{Step, StepRule};
+use rules::step::StepRule;
 use std::alloc::{AllocError, Global};
 use store::refusal::Refusal;
 use store::version::{OPENING, Version};
@@ -41,11 +40,7 @@ fn new_pool(heap: Global) -> Result<Pool<TableStore, RangeRule>, AllocError>
     ensures rule { IfOk result (λ pool. entry_allows limits_permit pool.rule.settings ≡ house) }
 {
     let mut rule = RangeRule::new();
-    let limits = Limits {
-        smallest: -5,
-        largest: 5,
-    };
-    rule.set(1, limits).unwrap();
+    rule.set(1, -5, 5).unwrap();
     Ok(Pool::new(laid_table(heap)?, rule))
 }
 
@@ -178,6 +173,6 @@ pub fn follows_ten(value: i64) -> bool
     ensures { result ≡ fives 1 (pos 10) value }
 {
     let mut rule = StepRule::new();
-    rule.set(1, Step(5)).unwrap();
+    rule.set(1, 5).unwrap();
     rule.allows(1, 10, value)
 }
