@@ -28,7 +28,7 @@ least {m} (published rs x v j inside author near room) e below =
     (λ apart. omega (arith, ap length (chain_push_other rs r e apart), least j e below))
     (cases_eq x e)
 
-deep : (m d : ℕ) → sizes_fit m d ≡ true → 2 ≤ d
+pub deep : (m d : ℕ) → sizes_fit m d ≡ true → 2 ≤ d
 deep m d fit = grind (arith, nat_tests)
 
 pub shallow : (m d : ℕ) → sizes_fit m d ≡ true → d ≤ 200
@@ -140,20 +140,23 @@ pub previous_fits : (rs : List Record) (e : ℕ) → length rs ≤ 12800 → (pr
 previous_fits rs e few = read_again (last_place rs e) (before_later (0 + 16 * length rs) 204800 (last_place rs e) (omega arith) (last_before 0 rs e None tt))
 
 -- what a publish adds has its sixteen bytes
-pub published_fits : {m d : ℕ} {rs : List Record} → Journaled m d rs → (e : ℕ) (v : Version) → e < m → is_author v ≡ true → within reach v.value ≡ true → Fits (entry_record e v (last_place rs e))
-published_fits {m} {d} {rs} j e v inside author near =
-    let fit = sizes j in
-    let few_entries = few m d fit in
-    let bound : m * d ≤ 64 * 200 = mul-le m d 64 200 few_entries (shallow m d fit) in
-    let previous = previous_fits rs e (omega (arith, room j, bound)) in
+pub published_fits : (m : ℕ) (rs : List Record) → m ≤ 64 → length rs ≤ 12800 → (e : ℕ) (v : Version) → e < m → is_author v ≡ true → within reach v.value ≡ true → Fits (entry_record e v (last_place rs e))
+published_fits m rs few short e v inside author near =
+    let previous = previous_fits rs e short in
     record {
-      entry = omega (arith, few_entries, inside);
+      entry = omega arith;
       seat = grind (arith, nat_tests);
       serial = grind (arith, nat_tests);
       value = near;
       previous = previous.0;
       none = previous.1;
     }
+
+-- there are never more records than so many chains may have
+pub short : {m d : ℕ} {rs : List Record} → Journaled m d rs → length rs ≤ 12800
+short {m} {d} j =
+    let fit = sizes j in
+    omega (arith, room j, mul-le m d 64 200 (few m d fit) (shallow m d fit))
 
 -- and so has an opening record
 pub opening_fits : (e : ℕ) → e < 64 → Fits (entry_record e opening None)

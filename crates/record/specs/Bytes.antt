@@ -1,5 +1,5 @@
 -- A record as sixteen bytes, the lowest byte of each number first.
-use Rattle.std.specs.Prelude.{◌≡◌, ℕ, ◌<◌, true, ℤ, cond, List, [], ◌∷◌, ◌++◌, length, take, drop, Some, None, Option, nat_lt, nat_eq, slice_index}
+use Rattle.std.specs.Prelude.{◌≡◌, ℕ, ◌+◌, ◌<◌, true, ℤ, cond, List, [], ◌∷◌, ◌++◌, length, take, drop, Some, None, Option, nat_lt, nat_le, nat_eq, slice_index}
 use Rattle.std.specs.Int.{w32, w64, to_le_bytes, from_le_bytes, cast_unsigned, cast_signed}
 use Rattle.store.specs.Steps.{within}
 use Rattle.record.specs.declared.record.Record.{Record}
@@ -41,6 +41,10 @@ record_from bytes = record {
   };
   previous = previous_from (from_le_bytes w32 (take 4 (drop 12 bytes)));
 }
+
+-- the record that begins at a place, where sixteen bytes do
+abbrev pub record_read : List ℕ → ℕ → Option Record
+record_read bytes place = cond (nat_le (place + 16) (length bytes)) (Some (record_from (take 16 (drop place bytes)))) None
 
 -- what has such bytes: an entry and a seat of one byte, a serial of four, a value that six hold, a place that is not the one for none
 pub record Fits (r : Record) : Type 0 where

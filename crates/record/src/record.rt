@@ -1,6 +1,6 @@
 ghost use Rattle.std.specs.Prelude.{◌≡◌, ℕ, List};
 ghost use Rattle.record.specs.declared.record.Record.{Record};
-ghost use Rattle.record.specs.Bytes.{record_bytes, record_from, previous_number, previous_from, value_bytes, value_from, Fits, AreSixteen};
+ghost use Rattle.record.specs.Bytes.{record_bytes, record_from, record_read, previous_number, previous_from, value_bytes, value_from, Fits, AreSixteen};
 
 use store::version::Version;
 
@@ -77,6 +77,14 @@ impl Record {
             },
             previous: previous_from(u32::from_le_bytes([p0, p1, p2, p3])),
         }
+    }
+
+    // The record that begins so many bytes from the start; none where fewer than sixteen follow.
+    pub fn read(bytes: &[u8], place: usize) -> Option<Record>
+        ensures { result ≡ record_read bytes.now place }
+    {
+        let record = bytes.get(place..)?.first_chunk()?;
+        Some(Record::decode(*record))
     }
 }
 

@@ -48,3 +48,13 @@ fn bytes(rt: HostRuntime) -> Result<(), Fail> {
     }
     Ok(())
 }
+
+#[test]
+fn places(rt: HostRuntime) -> Result<(), Fail> {
+    let bytes = [9, 9, 5, 1, 2, 0, 0, 0, 3, 0, 0, 0, 0, 0, 4, 0, 0, 0];
+    assert_eq!(rt; Record::read(&bytes, 2), Some(record(5, 3, 1, 2, Some(4))));
+    assert_eq!(rt; Record::read(&bytes, 3), None);
+    assert_eq!(rt; Record::read(&bytes, 19), None);
+    assert_eq!(rt; Record::read(&bytes, usize::MAX), None);
+    Ok(())
+}
