@@ -4,6 +4,7 @@
 pub mod latest;
 pub mod reading;
 pub mod refusal;
+pub mod sizes;
 pub mod text;
 pub mod version;
 pub mod writing;

@@ -1,10 +1,12 @@
 ghost use Rattle.std.specs.Prelude.{◌≡◌, ◌*◌, ◌≤◌, length};
+ghost use Rattle.store.specs.Laying.{lay_answer};
 ghost use Rattle.store.specs.Steps.{unless_refused};
-ghost use Rattle.table.specs.Layout.{lay_answer, opened, laid_out};
+ghost use Rattle.table.specs.Layout.{opened, laid_out};
 ghost use Rattle.table.specs.Stores.{table_writing, memory};
 
-use crate::{LEAST_DEPTH, MOST_DEPTH, MOST_ENTRIES, Row, TableStore};
+use crate::{Row, TableStore};
 use store::refusal::Refusal;
+use store::sizes::{LEAST_DEPTH, MOST_ENTRIES, sizes_fit};
 use store::version::{OPENING, Version};
 
 impl TableStore {
@@ -28,7 +30,7 @@ impl TableStore {
         ensures means { table_writing self.new ≡ unless_refused result (laid_out entries depth) (table_writing self.old) }
         ensures cells { memory self.new ≡ unless_refused result (opened (memory self.old) entries depth) (memory self.old) }
     {
-        if !(1..=MOST_ENTRIES).contains(&entries) || !(LEAST_DEPTH..=MOST_DEPTH).contains(&depth) {
+        if !sizes_fit(entries, depth) {
             return Err(Refusal::SizeOrSetting);
         }
         if self.cells.len() < entries * depth {

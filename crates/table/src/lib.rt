@@ -5,6 +5,7 @@ ghost use Rattle.std.specs.Prelude.{ℕ, ◌*◌, ◌<◌, ◌≤◌, length};
 ghost use Rattle.table.specs.Table.{table, IsSound};
 
 use store::refusal::Refusal;
+use store::sizes::MOST_ENTRIES;
 use store::version::Version;
 
 mod layout;
@@ -12,12 +13,6 @@ pub mod reading;
 #[cfg(test)]
 mod tests;
 pub mod writing;
-
-pub const MOST_ENTRIES: usize = 64;
-
-pub const LEAST_DEPTH: usize = 2;
-
-pub const MOST_DEPTH: usize = 200;
 
 // The largest value that a version may have, above zero or below.
 pub const REACH: u64 = 100_000_000_000_000_000;
