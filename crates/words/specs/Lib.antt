@@ -1,0 +1,5 @@
+pub mod Faults
+pub mod Words
+pub mod Lines
+pub mod Tokens
+pub mod Numbers
