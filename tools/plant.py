@@ -5,7 +5,7 @@
 
 A bug is a block of lines: name, crate, what (the bug in words), file (in the crate), and one or more pairs of old and new. A text is one line,
 in which \\n stands for the end of a line; each old text stands in its file exactly once. The bug's crate is checked first, and where it proves,
-the crates above it; where those prove too, the tests of all crates are run. COPY is made from the folder above this one, and kept between runs.
+the crates above it; where those prove too, their programs and tests are run. COPY is made from the folder above this one, and kept between runs.
 """
 import os
 import re
@@ -60,6 +60,16 @@ def rt(copy, crate, command):
     lock = os.environ.get("PLANT_LOCK")
     call = ["flock", lock] if lock else []
     folder = os.path.join(copy, "crates", crate)
+    fed = os.path.join(folder, "stdin")
+    if command == "run":
+        given = open(fed if os.path.exists(fed) else os.devnull, encoding="utf-8")
+        run = subprocess.run(call + ["rt", "run"], cwd=folder, stdin=given, stdout=subprocess.PIPE, stderr=subprocess.PIPE, text=True)
+        wanted = open(os.path.join(folder, "stdout"), encoding="utf-8").read().splitlines()
+        printed = run.stdout.splitlines()
+        for want, line in zip(wanted + [""] * len(printed), printed + [""] * len(wanted)):
+            if want != line:
+                return 1, "fails: %r printed where %r is wanted" % (line, want)
+        return run.returncode, run.stderr
     run = subprocess.run(call + ["rt", command], cwd=folder, stdout=subprocess.PIPE, stderr=subprocess.STDOUT, text=True)
     return run.returncode, run.stdout
 
@@ -107,7 +117,12 @@ def outcome(copy, deps, bug, logs):
                 return ("does not compile" if is_code else "refused by the proof"), crate, line
             if status != 0:
                 return "no verdict", crate, first_line(log)
-        for crate in deps:
+        for crate in [bug["crate"]] + above(deps, bug["crate"]):
+            if os.path.exists(os.path.join(copy, "crates", crate, "src", "main.rt")):
+                status, log = rt(copy, crate, "run")
+                logs.write("==== %s: run %s\n%s\n" % (bug["name"], crate, log))
+                if status != 0:
+                    return "caught only by a test", crate, first_line(log)
             if has_tests(copy, crate):
                 status, log = rt(copy, crate, "test")
                 logs.write("==== %s: test %s\n%s\n" % (bug["name"], crate, log))
