@@ -9,10 +9,10 @@ use record::record::SIZE;
 use store::sizes::{MOST_ENTRIES, sizes_fit};
 
 // How many bytes a place has.
-const PLACE: usize = 4;
+pub(crate) const PLACE: usize = 4;
 
 // How many bytes may stand behind the records.
-const MOST_TAIL: usize = PLACE * MOST_ENTRIES + trailer::SIZE;
+pub(crate) const MOST_TAIL: usize = PLACE * MOST_ENTRIES + trailer::SIZE;
 
 // What an image has: its entries and depth, and how many records.
 #[derive(Clone, Copy)]
@@ -74,7 +74,7 @@ fn is_tail(bytes: &[u8], lasts: &[u32; MOST_ENTRIES], trailer: Trailer) -> bool
 }
 
 // The places, and then the trailer, into memory of just their length.
-fn write_tail(lasts: &[u32; MOST_ENTRIES], trailer: Trailer, out: &mut [u8])
+pub(crate) fn write_tail(lasts: &[u32; MOST_ENTRIES], trailer: Trailer, out: &mut [u8])
     requires few { trailer.entries ≤ 64 }
     requires room { length out.old ≡ 4 * trailer.entries + 16 }
     ensures { out.new ≡ numbers_bytes lasts.now trailer.entries ++ trailer_bytes trailer }
@@ -87,7 +87,7 @@ fn write_tail(lasts: &[u32; MOST_ENTRIES], trailer: Trailer, out: &mut [u8])
 }
 
 // Bytes in place of as many from a place on.
-fn put(out: &mut [u8], place: usize, added: &[u8])
+pub(crate) fn put(out: &mut [u8], place: usize, added: &[u8])
     requires { place + length added.now ≤ length out.old }
     ensures { out.new ≡ written out.old place added.now }
 {
