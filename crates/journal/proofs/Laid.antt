@@ -107,7 +107,7 @@ module _ (v : Vec ℕ Global) (ws : List ℕ) (rows : List Row) (m d : ℕ) (wri
   pub laid_room : 16 * (m * d) ≤ length now
   laid_room = omega (arith, ap length is, opened_length v.items m room_each)
 
-  laid_records : records_of laid ≡ openings m
+  pub laid_records : records_of laid ≡ openings m
   laid_records = ap (λ bs. records bs m) is ∙ opened_records v.items m few room_each
 
   pub laid_kept : ∥ Journaled m d (records_of laid) ∥₁

@@ -17,7 +17,7 @@ use Rattle.record.proofs.Chains.{chain_push_same, chain_push_other, last_push_sa
 use Rattle.record.proofs.Written.{records_more, length_records, length_written, length_record_bytes}
 use Rattle.journal.specs.declared.JournalStore.{JournalStore}
 use Rattle.journal.specs.declared.Row.{Row}
-use Rattle.journal.specs.Journal.{Journal, journal, row, row_answer, blank, beside, bytes_with, publish_bytes, records_of, writing_of, IsSound, MayFollow}
+use Rattle.journal.specs.Journal.{Journal, journal, row, row_answer, blank, beside, bytes_with, publish_bytes, records_with, publish_records, records_of, writing_of, IsSound, MayFollow}
 use Rattle.journal.specs.Stores.{journal_of, journal_writing, memory}
 use Rattle.journal.specs.Rows.{chain_length}
 
@@ -223,3 +223,9 @@ module _ (s : JournalStore) (e : ℕ) (long : s.entries ≤ length s.rows) where
 
       pub after_bytes : now ≡ publish_bytes j e
       after_bytes = now_is ∙ publishes_bytes
+
+      pub after_records : records_of (after now) ≡ publish_records j e
+      after_records =
+          ap (λ bytes. records bytes (s.count + 1)) now_is ∙ records_grown
+          ∙ ap (λ o. rs ++ entry_record e v o ∷ []) (sym found)
+          ∙ ap (records_with j e) (sym besides)

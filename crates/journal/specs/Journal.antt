@@ -1,5 +1,5 @@
 -- What a journal in memory means: the records lie at the front of the bytes, in the order in which they came.
-use Rattle.std.specs.Prelude.{◌≡◌, ℕ, zero, suc, ◌*◌, ◌<◌, true, cond, List, length, replicate, Some, None, Option, Result, Ok, Err, nat_lt, slice_index_or, slice_set}
+use Rattle.std.specs.Prelude.{◌≡◌, ℕ, zero, suc, ◌*◌, ◌<◌, true, cond, List, [], ◌∷◌, ◌++◌, length, replicate, Some, None, Option, Result, Ok, Err, nat_lt, slice_index_or, slice_set}
 use Rattle.store.specs.declared.version.Version.{Version}
 use Rattle.store.specs.declared.refusal.Refusal.{Refusal}
 use Rattle.store.specs.declared.refusal.Refusal.TheVariants.{NoSuchEntry}
@@ -58,6 +58,14 @@ bytes_with j e (Some v) = written j.bytes (16 * j.count) (record_bytes (entry_re
 -- the bytes after a publish: a record of what is staged stands behind the others, and no other byte changes
 abbrev pub publish_bytes : Journal → ℕ → List ℕ
 publish_bytes j e = bytes_with j e (beside j e)
+
+-- the records after a publish: a record of what is staged behind the others
+abbrev pub records_with : Journal → ℕ → Option Version → List Record
+records_with j e None = records_of j
+records_with j e (Some v) = records_of j ++ entry_record e v (last_place (records_of j) e) ∷ []
+
+abbrev pub publish_records : Journal → ℕ → List Record
+publish_records j e = records_with j e (beside j e)
 
 -- what may be published beside a chain of some length
 pub record MayFollow (depth len : ℕ) (v : Version) : Type 0 where

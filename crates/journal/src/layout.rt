@@ -1,10 +1,10 @@
-ghost use Rattle.std.specs.Prelude.{◌≡◌, ◌+◌, ◌*◌, ◌/◌, ◌≤◌, length};
+ghost use Rattle.std.specs.Prelude.{◌≡◌, ◌+◌, ◌*◌, ◌/◌, ◌<◌, ◌≤◌, ◌↔◌, length, Some, IfSome, IsSome};
 ghost use Rattle.store.specs.Laying.{just_laid_out, lay_answer};
 ghost use Rattle.store.specs.Steps.{unless_refused};
 ghost use Rattle.record.specs.Bytes.{record_bytes};
-ghost use Rattle.record.specs.Journals.{reach, written, openings, records_bytes};
-ghost use Rattle.journal.specs.Journal.{opened_bytes, opened_rows};
-ghost use Rattle.journal.specs.Stores.{journal_writing, memory};
+ghost use Rattle.record.specs.Journals.{reach, written, openings, records, records_bytes, last_place};
+ghost use Rattle.journal.specs.Journal.{opened_bytes, opened_rows, records_of};
+ghost use Rattle.journal.specs.Stores.{journal_of, journal_reading, journal_writing, memory};
 
 use crate::{JournalStore, Row};
 use record::record::{Record, SIZE};
@@ -33,6 +33,7 @@ impl JournalStore {
         ensures answer { result ≡ lay_answer (length (memory self.old) / 16) entries depth }
         ensures means { journal_writing self.new ≡ unless_refused result (just_laid_out reach entries depth) (journal_writing self.old) }
         ensures bytes { memory self.new ≡ unless_refused result (written (memory self.old) 0 (records_bytes (openings entries))) (memory self.old) }
+        ensures records { records_of (journal_of self.new) ≡ unless_refused result (openings entries) (records_of (journal_of self.old)) }
     {
         if !sizes_fit(entries, depth) {
             return Err(Refusal::SizeOrSetting);
@@ -53,6 +54,21 @@ impl JournalStore {
         ensures { result.now ≡ memory self.now }
     {
         self.bytes.as_slice()
+    }
+
+    // The bytes of the records, one after another.
+    pub fn records(&self) -> &[u8]
+        ensures { result.now ≡ records_bytes (records_of (journal_of self.now)) }
+    {
+        front(&self.bytes, self.count)
+    }
+
+    // Where the last record of an entry begins; none where there is no such entry.
+    pub fn last_place(&self, entry: usize) -> Option<u32>
+        ensures place { IfSome result (λ place. last_place (records_of (journal_of self.now)) entry ≡ Some place) }
+        ensures entry { IsSome result ↔ (entry < (journal_reading self.now).entries) }
+    {
+        Some(self.row(entry).ok()?.last)
     }
 
     // Gives the memory back.
@@ -98,4 +114,13 @@ pub(crate) fn put(bytes: &mut [u8], place: usize, added: Record)
     ensures { bytes.new ≡ written bytes.old place (record_bytes added) }
 {
     bytes[place..place + SIZE].copy_from_slice(&added.encode());
+}
+
+// The bytes of the first records.
+fn front(bytes: &[u8], count: usize) -> &[u8]
+    requires few { count ≤ 12800 }
+    requires room { 16 * count ≤ length bytes.now }
+    ensures { result.now ≡ records_bytes (records bytes.now count) }
+{
+    &bytes[..SIZE * count]
 }

@@ -1,6 +1,6 @@
 ghost use Rattle.std.specs.Prelude.{◌≡◌};
 ghost use Rattle.store.specs.Steps.{Stages, Publishes, Withdraws};
-ghost use Rattle.journal.specs.Journal.{publish_bytes};
+ghost use Rattle.journal.specs.Journal.{records_of, publish_bytes, publish_records};
 ghost use Rattle.journal.specs.Stores.{journal_of, journal_staged, journal_writing, memory};
 ghost use Rattle.journal.specs.Rows.{journal_writable};
 
@@ -25,6 +25,7 @@ impl WritingStore for JournalStore {
     fn stage(&mut self, entry: usize, version: Version) -> Result<(), Refusal>
         ensures means { Stages (journal_writing self.old) entry version result (journal_writing self.new) }
         ensures bytes { memory self.new ≡ memory self.old }
+        ensures records { records_of (journal_of self.new) ≡ records_of (journal_of self.old) }
     {
         let row = self.row(entry)?;
         if !version.has_author() {
@@ -43,6 +44,7 @@ impl WritingStore for JournalStore {
     fn publish(&mut self, entry: usize) -> Result<(), Refusal>
         ensures means { Publishes (journal_writing self.old) entry result (journal_writing self.new) }
         ensures bytes { memory self.new ≡ publish_bytes (journal_of self.old) entry }
+        ensures records { records_of (journal_of self.new) ≡ publish_records (journal_of self.old) entry }
     {
         let row = self.row(entry)?;
         let version = row.staged.ok_or(Refusal::NothingStaged)?;
@@ -69,6 +71,7 @@ impl WritingStore for JournalStore {
     fn withdraw(&mut self, entry: usize) -> Result<(), Refusal>
         ensures means { Withdraws (journal_writing self.old) entry result (journal_writing self.new) }
         ensures bytes { memory self.new ≡ memory self.old }
+        ensures records { records_of (journal_of self.new) ≡ records_of (journal_of self.old) }
     {
         let row = self.row(entry)?;
         row.staged.ok_or(Refusal::NothingStaged)?;

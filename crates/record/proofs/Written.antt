@@ -1,13 +1,16 @@
 -- Records as they lie in bytes, one more at a time.
-use Rattle.std.proofs.Common.{◌≡◌, ℕ, zero, suc, ◌+◌, ◌*◌, ◌<◌, ◌≤◌, List, [], ◌∷◌, ◌++◌, length, get_or, take, drop, refl, sym, ap, ◌∙◌, arith, ⊎_elim}
+use Rattle.std.proofs.Common.{◌≡◌, ℕ, zero, suc, ◌+◌, ◌-◌, ◌*◌, ◌<◌, ◌≤◌, List, [], ◌∷◌, ◌++◌, length, get_or, take, drop, None, refl, sym, ap, ◌∙◌, arith, add-one, ⊎_elim}
 use Rattle.std.proofs.Math.Seq.{take-add}
 use Rattle.std.proofs.lemmas.Bool.{cases_lt}
 use Rattle.std.proofs.lemmas.Grind.{flat_map-append}
-use Rattle.std.proofs.lemmas.List.{length_push, append-nil, take-take, take_at, drop_at, length-take-le, length-drop, length-append, drop-take, get_or-take, get_or-drop, get_or_past}
+use Rattle.std.proofs.lemmas.List.{length_push, append-nil, take-take, take_at, drop_at, drop-drop, length-take-le, length-drop, length-append, drop-take, get_or-take, get_or-drop, get_or_past, append_assoc}
+use Rattle.store.specs.Meaning.{opening}
 use Rattle.record.specs.declared.record.Record.{Record}
 use Rattle.record.specs.Bytes.{Fits, AreSixteen, record_bytes, record_from}
-use Rattle.record.specs.Journals.{records, record_at, records_bytes, written}
+use Rattle.record.specs.Journals.{records, record_at, records_bytes, written, entry_record, openings, last_place, Journaled, laid_out, published}
 use Rattle.record.proofs.Undone.{again, spelled}
+use Rattle.record.proofs.Chains.{length_openings}
+use Rattle.record.proofs.Kept as kept
 
 pub length_records : (bytes : List ℕ) (n : ℕ) → length (records bytes n) ≡ n
 length_records bytes zero = refl
@@ -74,3 +77,45 @@ records_spelled bytes (suc n) small within =
     ∙ (λ i. records_spelled bytes n small (omega arith) i ++ (append-nil (record_bytes (record_at bytes n)) ∙ spelled (take 16 (drop (16 * n) bytes)) (sixteen bytes n small (omega arith))) i)
     ∙ sym (take-add (16 * n) 16 bytes)
     ∙ ap (λ k. take k bytes) (omega arith)
+
+-- what is written behind a front that was written is written with it
+pub written_more : (bytes front new : List ℕ) (at : ℕ) → length front ≡ at → written (written bytes 0 front) at new ≡ written bytes 0 (front ++ new)
+written_more bytes front new at long =
+    let rest = drop (0 + length front) bytes in
+    let behind : drop (at + length new) (front ++ rest) ≡ drop (0 + length (front ++ new)) bytes =
+    sym (drop-drop (length new) at (front ++ rest))
+    ∙ ap (drop (length new)) (drop_at front rest at long)
+    ∙ drop-drop (length new) (0 + length front) bytes
+    ∙ ap (λ k. drop k bytes) (omega (arith, length-append front new)) in
+    (λ i. take_at front rest at long i ++ (new ++ behind i)) ∙ sym (append_assoc front new (drop (0 + length (front ++ new)) bytes))
+
+pub bytes_push : (rs : List Record) (r : Record) → records_bytes (rs ++ r ∷ []) ≡ records_bytes rs ++ record_bytes r
+bytes_push rs r = flat_map-append record_bytes rs (r ∷ []) ∙ ap (λ bs. records_bytes rs ++ bs) (append-nil (record_bytes r))
+
+pub length_records_bytes : (rs : List Record) → length (records_bytes rs) ≡ 16 * length rs
+length_records_bytes [] = refl
+length_records_bytes (r ∷ rs) = omega (arith, length-append (record_bytes r) (records_bytes rs), length_record_bytes r, length_records_bytes rs)
+
+-- the records of a journal are read again from their bytes, whatever follows
+again_push : (rs : List Record) (r : Record) (tail : List ℕ) (n : ℕ) → length rs ≡ n → ((t : List ℕ) → records (records_bytes rs ++ t) n ≡ rs) → Fits r → records (records_bytes (rs ++ r ∷ []) ++ tail) (suc n) ≡ rs ++ r ∷ []
+again_push rs r tail n long before fits =
+    let here : drop (16 * n) (records_bytes rs ++ (record_bytes r ++ tail)) ≡ record_bytes r ++ tail = drop_at (records_bytes rs) (record_bytes r ++ tail) (16 * n) (omega (arith, length_records_bytes rs, long)) in
+    ap (λ bs. records (bs ++ tail) (suc n)) (bytes_push rs r)
+    ∙ ap (λ bs. records bs (suc n)) (append_assoc (records_bytes rs) (record_bytes r) tail)
+    ∙ (λ i. before (record_bytes r ++ tail) i ++ (ap (λ bs. record_from (take 16 bs)) here ∙ ap record_from (take_at (record_bytes r) tail 16 (length_record_bytes r)) ∙ again r fits) i ∷ [])
+
+openings_again : (n : ℕ) → n ≤ 64 → (tail : List ℕ) → records (records_bytes (openings n) ++ tail) n ≡ openings n
+openings_again zero few tail = refl
+openings_again (suc n) few tail =
+    again_push (openings n) (entry_record n opening None) tail n (length_openings n) (openings_again n (omega arith)) (kept.opening_fits n (omega arith))
+
+journaled_again : {m d : ℕ} {rs : List Record} → Journaled m d rs → (tail : List ℕ) → records (records_bytes rs ++ tail) (length rs) ≡ rs
+journaled_again {m} {d} (laid_out fit) tail = ap (records (records_bytes (openings m) ++ tail)) (length_openings m) ∙ openings_again m (kept.few m d fit) tail
+journaled_again {m} {d} (published rs e v j inside author near room) tail =
+    let r = entry_record e v (last_place rs e) in
+    let fits = kept.published_fits m rs (kept.few m d (kept.sizes j)) (kept.short j) e v inside author near in
+    ap (records (records_bytes (rs ++ r ∷ []) ++ tail)) (length_push rs r ∙ add-one (length rs))
+    ∙ again_push rs r tail (length rs) refl (journaled_again j) fits
+
+pub read_again : (m d : ℕ) (rs : List Record) (tail : List ℕ) → Journaled m d rs → records (records_bytes rs ++ tail) (length rs) ≡ rs
+read_again m d rs tail j = journaled_again j tail

@@ -1,5 +1,5 @@
 use Rattle.std.proofs.Common.{length, arith, rules}
-use Rattle.journal.proofs.Laid.{each_room, laid_room, laid_kept, laid_sound, laid_means, laid_bytes}
+use Rattle.journal.proofs.Laid.{each_room, laid_room, laid_kept, laid_sound, laid_means, laid_records, laid_bytes}
 use Rattle.journal.proofs.JournalStore.lay_out.Goals as goal
 
 pub open-rows-requires-clause-room : goal.open-rows-requires-clause-room
@@ -25,3 +25,7 @@ returns-clause-means c =
 pub returns-clause-bytes : goal.returns-clause-bytes
 returns-clause-bytes c =
     laid_bytes c.args.self.now.bytes c.open-rows.new.bytes c.open-rows.result c.args.entries c.args.depth (cc) (cc) (search rules) (omega arith)
+
+pub returns-clause-records : goal.returns-clause-records
+returns-clause-records c =
+    laid_records c.args.self.now.bytes c.open-rows.new.bytes c.open-rows.result c.args.entries c.args.depth (cc) (cc) (search rules) (omega arith)

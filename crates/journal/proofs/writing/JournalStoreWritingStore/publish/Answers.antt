@@ -1,5 +1,5 @@
 use Rattle.std.proofs.Common.{arith, rules}
-use Rattle.journal.proofs.Writes.{may, place_room, count_short, after_room, after_kept, after_sound, after_publishes, after_bytes}
+use Rattle.journal.proofs.Writes.{may, place_room, count_short, after_room, after_kept, after_sound, after_publishes, after_records, after_bytes}
 use Rattle.journal.proofs.writing.JournalStoreWritingStore.publish.Goals as goal
 
 pub overflow_mul-place : goal.overflow_mul-place
@@ -38,3 +38,7 @@ returns-clause-means c =
 pub returns-clause-bytes : goal.returns-clause-bytes
 returns-clause-bytes c =
     after_bytes c.args.self.now c.args.entry (search rules) c.in_ok-row.row c.in_ok-version.version c.in_ok-row.ensures c.in_ok-version.ensures.ok_part c.put.new.bytes (cc)
+
+pub returns-clause-records : goal.returns-clause-records
+returns-clause-records c =
+    after_records c.args.self.now c.args.entry (search rules) c.in_ok-row.row c.in_ok-version.version c.in_ok-row.ensures c.in_ok-version.ensures.ok_part c.put.new.bytes (cc)

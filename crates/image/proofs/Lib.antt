@@ -1,0 +1,3 @@
+pub mod Passes
+pub mod Tails
+pub mod Copied
