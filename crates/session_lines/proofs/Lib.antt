@@ -1,0 +1,2 @@
+pub mod Derivings
+pub mod CallNames
