@@ -1,3 +1,4 @@
 pub mod Passes
 pub mod Tails
 pub mod Copied
+pub mod Refilled

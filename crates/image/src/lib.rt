@@ -4,6 +4,7 @@
 pub mod copies;
 mod heads;
 pub mod image;
+pub mod reading;
 #[cfg(test)]
 mod tests;
 mod trailer;
