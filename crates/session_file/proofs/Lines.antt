@@ -1,12 +1,11 @@
 -- A line derives one thing, and one that derives something has no fault.
-use Rattle.std.proofs.Common.{codes, map, ◌≡◌, ◌≢◌, ℕ, ℤ, pos, eqb, cond, Bool, true, false, List, [], ◌∷◌, ◌++◌, Some, None, Option, length, get_or, refl, sym, ap, ◌∙◌, arith}
+use Rattle.std.proofs.Common.{codes, map, ◌≡◌, ℕ, ℤ, pos, eqb, cond, Bool, true, false, List, [], ◌∷◌, length, get_or, refl, sym, ap, ◌∙◌}
 use Rattle.calls.specs.declared.call.Call.{Call}
 use Rattle.calls.specs.declared.call.Call.TheVariants as C
-use Rattle.words.specs.Words.{Words, Leads}
 use Rattle.words.specs.declared.fault.WordFault.TheVariants as W
 use Rattle.words.proofs.Splits.{same_word, same_rest}
 use Rattle.words.proofs.Numerals.{number_one, value_one}
-use Rattle.session_lines.specs.Grammar.{Argument, Plain, Scaled, Strictness, AnyWord, InForm, InReach, Reads, EachReads, Arguments, Spells, HasFault}
+use Rattle.session_lines.specs.Grammar.{Argument, Plain, Scaled, Strictness, AnyWord, InForm, InReach, Reads, EachReads, Spells, HasFault}
 use Rattle.session_lines.specs.Calls.{name, arguments, CallLine, DerivesCall}
 use Rattle.session_lines.specs.Names.{name_text}
 use Rattle.session_lines.specs.Sizes.{SizesLine, DerivesSizes, size_arguments}

@@ -1,5 +1,5 @@
 -- Calls so far and a call more.
-use Rattle.std.proofs.Common.{◌≡◌, ℕ, zero, suc, ◌+◌, ◌<◌, List, [], ◌∷◌, ◌++◌, length, refl, sym, ap, arith, append_assoc, length-append, subst}
+use Rattle.std.proofs.Common.{◌≡◌, ℕ, zero, suc, ◌+◌, ◌<◌, List, [], ◌∷◌, ◌++◌, length, refl, ap, arith, append_assoc, length-append}
 use Rattle.calls.specs.declared.call.Call.{Call}
 use Rattle.session_lines.specs.Grammar.{InReach}
 use Rattle.session_lines.specs.Calls.{CallLine}

@@ -1,19 +1,16 @@
 -- A file derives one session, and a file that derives one has no fault.
-use Rattle.std.proofs.Common.{inl, inr, ◌≡◌, ℕ, zero, suc, ◌+◌, ◌<◌, ◌≤◌, ◌⊎◌, List, [], ◌∷◌, ◌++◌, Ok, Err, Result, MatchResult, length, refl, sym, ap, ◌∙◌, arith, length-append}
+use Rattle.std.proofs.Common.{inl, inr, ◌≡◌, ℕ, zero, suc, List, [], ◌∷◌, Ok, Err, Result, MatchResult, length, refl, sym, ap, ◌∙◌, arith, length-append}
 use Rattle.calls.specs.declared.call.Call.{Call}
 use Rattle.words.specs.Lines.{Begins}
-use Rattle.words.specs.declared.fault.WordFault.TheVariants as W
 use Rattle.words.proofs.Cuts.{one_cut}
 use Rattle.session_lines.specs.Grammar.{InReach, HasFault}
 use Rattle.session_lines.specs.Calls.{CallLine, DerivesCall}
 use Rattle.session_lines.specs.Sizes.{SizesLine, DerivesSizes}
 use Rattle.session_lines.specs.Timescales.{TimescaleLine}
 use Rattle.session_lines.specs.declared.fault.Cause.{Cause}
-use Rattle.session_lines.specs.declared.fault.Cause.TheVariants.{Word, Line}
-use Rattle.session_lines.specs.declared.fault.LineFault.TheVariants.{Words}
 use Rattle.session_lines.specs.declared.sizes.Sizes.{Sizes}
 use Rattle.session_lines.specs.declared.timescale.Timescale.{Timescale}
-use Rattle.session_file.specs.Files.{First, CallLines, Derives, FirstIsFaulty, TimescaleFault, FirstPartFault, SecondPartFault, NextCallFault, CallsFault, FirstFault}
+use Rattle.session_file.specs.Files.{First, CallLines, Derives, FirstIsFaulty, TimescaleFault, CallsFault, FirstFault}
 use Rattle.session_file.specs.Reads.{Stopped}
 use Rattle.session_file.specs.declared.session.Session.{Session}
 use Rattle.session_file.specs.declared.session.ReadError.{ReadError}

@@ -70,3 +70,12 @@ behind_minus (c ∷ cs) e h =
     let size : length (c ∷ cs) - 1 ≡ length cs = omega arith in
     let all : take (length cs) cs ≡ cs = take-length cs in
     rw (size, all, e) refl
+
+-- a word writes one value
+pub value_one : (word : List ℕ) (y z : ℤ) → Value word y → Value word z → y ≡ z
+value_one word (pos n) (pos m) h k = ap pos (number_one 18 word n m h k)
+value_one word (pos n) (negsuc m) h k = let each = digits_each word n 0 h.digits h.some in absurd (omega (arith, each.0, ap (λ t. get_or t 0 0) k.1))
+value_one word (negsuc n) (pos m) h k = let each = digits_each word m 0 k.digits k.some in absurd (omega (arith, each.0, ap (λ t. get_or t 0 0) h.1))
+value_one word (negsuc n) (negsuc m) h k =
+    let same : h.0 ≡ k.0 = cc (h.1, k.1) in
+    let one : n + 1 ≡ m + 1 = number_one 18 k.0 (n + 1) (m + 1) (rw (← same) h.2) k.2 in ap negsuc (omega (arith, one))

@@ -1,8 +1,8 @@
 use Rattle.session_file.proofs.session.read_calls.Goals as goal
-use Rattle.std.proofs.Common.{[], ◌≡◌, length, ◌<◌, ◌++◌, arith, refl, rules}
+use Rattle.std.proofs.Common.{[], ◌≡◌, length, ◌<◌, arith, rules}
 use Rattle.session_file.proofs.OneMore.{one_more, one_later, first_shorter, stops, here, empty}
 use Rattle.session_file.specs.Reads.{FaultOfCalls}
-use Rattle.std.proofs.Common.{ℕ, ◌+◌, sym, append-nil}
+use Rattle.std.proofs.Common.{◌+◌, append-nil}
 use Rattle.session_lines.specs.Grammar.{InReach}
 use Rattle.session_lines.specs.Calls.{CallLine}
 

@@ -1,0 +1,59 @@
+-- What running a session file answers and prints.
+use Rattle.std.specs.Prelude.{◌≡◌, ℕ, ◌⊎◌, List, ◌++◌, Ok, Err, codes, replicate}
+use Rattle.calls.specs.Answers.{Answer}
+use Rattle.calls.specs.declared.call.Call.{Call}
+use Rattle.calls.specs.declared.fault.Fault.{Fault as PoolFault}
+use Rattle.calls.specs.declared.fault.Fault.TheVariants.{Store}
+use Rattle.store.specs.declared.refusal.Refusal.{Refusal}
+use Rattle.table.specs.Layout.{lay_answer, laid_out}
+use Rattle.rules.specs.House.{Rule}
+use Rattle.rules.specs.Limits.{widest, limits_permit}
+use Rattle.rules.specs.Settings.{entry_allows}
+use Rattle.pool.specs.Tables.{Moment, moment, fresh}
+use Rattle.pool.specs.Calls.{answer, open_pool}
+use Rattle.alone.specs.Runs.{Ran}
+use Rattle.session_lines.specs.Faults.{fault_text}
+use Rattle.session_lines.specs.declared.fault.Cause.{Cause}
+use Rattle.session_lines.specs.declared.fault.Cause.TheVariants.{Pool}
+use Rattle.session_lines.specs.declared.sizes.Sizes.{Sizes}
+use Rattle.session_lines.specs.declared.timescale.Timescale.{Timescale}
+use Rattle.session_file.specs.Files.{Derives, FirstFault}
+use Rattle.session_file.specs.declared.session.ReadError.{ReadError}
+use Rattle.session_file.specs.declared.session.ReadError.TheVariants.{Fault}
+use Rattle.session_run.specs.Texts.{answer_lines}
+
+-- the range rule with every entry at its widest limits
+abbrev pub allowed : Rule
+allowed = entry_allows limits_permit (replicate 64 widest)
+
+-- a pool that was not opened yet, over a store that was just laid out
+abbrev pub start : Sizes → Moment
+start sizes = moment (laid_out sizes.entries sizes.depth) (fresh 0)
+
+-- the answers of an opened pool to the calls, with the promise that alone::run makes
+abbrev pub Answered : Sizes → List Call → List Answer → Type 0
+Answered sizes calls answers =
+    (now : Moment) × (lay_answer 1024 sizes.entries sizes.depth ≡ Ok tt) × Ran allowed (start sizes) sizes.seats calls answers now
+
+-- on line 2, the store cannot be laid out, or else the pool cannot be opened
+abbrev pub IsRefused : Sizes → ℕ → Cause → Type 0
+IsRefused sizes line cause =
+    (line ≡ 2) × (((refusal : Refusal) × (lay_answer 1024 sizes.entries sizes.depth ≡ Err refusal) × (cause ≡ Pool (Store refusal)))
+    ⊎ ((fault : PoolFault) × (lay_answer 1024 sizes.entries sizes.depth ≡ Ok tt) × (answer (open_pool (start sizes) sizes.seats) ≡ Err fault) × (cause ≡ Pool fault)))
+
+abbrev pub refusal_of : PoolFault → ReadError
+refusal_of fault = Fault record { line = 2; cause = Pool fault }
+
+-- the answers to the calls of the session that a file derives
+abbrev pub RunOf : List ℕ → List Answer → Type 0
+RunOf file answers = (t : Timescale) × (sizes : Sizes) × (calls : List Call) × Derives file t sizes calls × Answered sizes calls answers
+
+-- a file is at fault, or what its sizes ask for is refused
+abbrev pub FailsAt : List ℕ → ℕ → Cause → Type 0
+FailsAt file line cause = FirstFault file line cause ⊎ ((t : Timescale) × (sizes : Sizes) × (calls : List Call) × Derives file t sizes calls × IsRefused sizes line cause)
+
+-- a line for each answer, or one line alone for a fault or a refusal
+abbrev pub Prints : List ℕ → List ℕ → Type 0
+Prints file text =
+    ((answers : List Answer) × RunOf file answers × (text ≡ answer_lines 3 answers))
+    ⊎ ((line : ℕ) × (cause : Cause) × FailsAt file line cause × (text ≡ fault_text record { line = line; cause = cause } ++ codes "\n"))
