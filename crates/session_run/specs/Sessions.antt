@@ -5,7 +5,8 @@ use Rattle.calls.specs.declared.call.Call.{Call}
 use Rattle.calls.specs.declared.fault.Fault.{Fault as PoolFault}
 use Rattle.calls.specs.declared.fault.Fault.TheVariants.{Store}
 use Rattle.store.specs.declared.refusal.Refusal.{Refusal}
-use Rattle.table.specs.Layout.{lay_answer, laid_out}
+use Rattle.store.specs.Laying.{lay_answer}
+use Rattle.table.specs.Layout.{laid_out}
 use Rattle.rules.specs.House.{Rule}
 use Rattle.rules.specs.Limits.{widest, limits_permit}
 use Rattle.rules.specs.Settings.{entry_allows}

@@ -1,7 +1,8 @@
 use Rattle.std.proofs.Common.{rules, ◌≡◌, length, sym, ap, ◌∙◌, vec_items}
 use Rattle.rules.specs.Limits.{limits_permit}
 use Rattle.rules.specs.Settings.{entry_allows}
-use Rattle.table.specs.Layout.{lay_answer, laid_out}
+use Rattle.store.specs.Laying.{lay_answer}
+use Rattle.table.specs.Layout.{laid_out}
 use Rattle.table.specs.Stores.{table_reading, table_staged, table_writing}
 use Rattle.pool.specs.Pools.{at}
 use Rattle.pool.specs.Tables.{moment}
