@@ -1,20 +1,20 @@
 -- What reading an image into a journal knows, record after record.
-use Rattle.std.proofs.Common.{◌≡◌, ℕ, zero, suc, ◌+◌, ◌-◌, ◌*◌, ◌/◌, ◌<◌, ◌≤◌, cond, eqb, true, List, [], ◌∷◌, ◌++◌, length, drop, Some, None, Ok, Err, Option, Result, refl, sym, ap, subst, ◌∙◌, ⊎_elim, arith, add-one, rules}
+use Rattle.std.proofs.Common.{◌≡◌, ℕ, ◌+◌, ◌*◌, ◌/◌, ◌<◌, ◌≤◌, cond, eqb, true, List, [], ◌∷◌, ◌++◌, length, Some, None, Ok, Err, Option, refl, sym, ap, subst, ◌∙◌, ⊎_elim, arith, add-one}
 use mathlib.Core.Path.{fun_ext}
 use Rattle.std.proofs.lemmas.Bool.{cases_eq, cases_lt, cond-true, cond-false, eq-eqb, ne_eqb, lt-ltb, le-ltb}
 use Rattle.store.specs.declared.version.Version.{Version}
 use Rattle.store.specs.declared.refusal.Refusal.{Refusal}
-use Rattle.store.specs.Meaning.{Writing, Reading, opening}
+use Rattle.store.specs.Meaning.{Writing}
 use Rattle.store.specs.Laying.{just_laid_out, lay_answer, sizes_fit}
-use Rattle.store.specs.Steps.{Answer, Stages, Publishes, stage_answer, stage_after, spend_answer, found, publish_after, unless_refused, with_staged, with_published, is_author, within}
+use Rattle.store.specs.Steps.{Answer, Stages, Publishes, stage_answer, spend_answer, found, unless_refused, with_staged, with_published}
 use Rattle.record.specs.declared.record.Record.{Record}
 use Rattle.record.specs.Bytes.{record_bytes, record_read}
 use Rattle.record.proofs.Kept as kept
-use Rattle.record.specs.Journals.{chain, last_place, records, record_at, records_bytes, written, openings, entry_record, reach, Journaled}
+use Rattle.record.specs.Journals.{chain, last_place, records, record_at, records_bytes, written, openings, entry_record, reach}
 use Rattle.record.proofs.Chains.{chain_push_same, chain_push_other, chain_openings, chain_openings_past}
 use Rattle.record.proofs.Written.{length_records, length_records_bytes, written_more, bytes_push}
 use Rattle.journal.specs.declared.JournalStore.{JournalStore}
-use Rattle.journal.specs.Journal.{Journal, records_of, beside, bytes_with, publish_bytes, records_with, publish_records}
+use Rattle.journal.specs.Journal.{records_of, beside, bytes_with, publish_bytes, records_with, publish_records}
 use Rattle.journal.specs.Stores.{journal_of, journal_writing, memory}
 use Rattle.image.specs.Heads.{MayCome}
 use Rattle.image.specs.declared.trailer.Trailer.{Trailer}

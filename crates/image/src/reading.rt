@@ -1,9 +1,13 @@
-ghost use Rattle.std.specs.Prelude.{◌≡◌, ℕ, List};
+ghost use Rattle.std.specs.Prelude.{◌≡◌, ℕ, ◌≤◌, List, length, IfOk, OnOk};
 ghost use Rattle.record.specs.declared.record.Record.{Record};
-ghost use Rattle.record.specs.Journals.{records};
+ghost use Rattle.record.specs.Journals.{records, written};
+ghost use Rattle.journal.specs.declared.JournalStore.{JournalStore};
+ghost use Rattle.journal.specs.Journal.{records_of};
+ghost use Rattle.journal.specs.Stores.{journal_of};
 ghost use Rattle.image.specs.Images.{IsImage, IsImageOf};
-ghost use Rattle.image.specs.Copies.{Reads, Refuses};
+ghost use Rattle.image.specs.Copies.{Reads, Refuses, image_of};
 
+use crate::copies::write_image;
 use crate::image::{Contents, contents_of};
 use journal::JournalStore;
 use record::record::{Record, SIZE};
@@ -14,6 +18,7 @@ use store::writing::WritingStore;
 // are no image, and then where the journal's memory is too short; the memory behind the records stays.
 pub fn read_image(journal: &mut JournalStore, image: &[u8]) -> Result<(), Refusal>
     ensures image { (entries depth : ℕ) (rs : List Record) → IsImageOf image.now entries depth rs → Reads journal.old entries depth rs result journal.new }
+    ensures found { OnOk result (IsImage image.now) }
     ensures other { (IsImage image.now → ⊥) → Refuses journal.old result journal.new }
 {
     let contents = contents_of(image).ok_or(Refusal::NoImage)?;
@@ -39,3 +44,16 @@ fn refill(journal: &mut JournalStore, image: &[u8], contents: Contents) -> Resul
     }
     Ok(())
 }
+
+// Reads an image into a journal, and writes the journal's image: the same bytes.
+pub fn rewrite(journal: &mut JournalStore, image: &[u8], out: &mut [u8]) -> Result<usize, Refusal>
+    ensures { IfOk result (λ len. (len ≡ length image.now) × (out.new ≡ written out.old 0 image.now)) }
+{
+    read_image(journal, image)?;
+    write_image(journal, out)
+}
+
+// What a journal that is laid out writes is the image of its records, which `read_image` reads again.
+pub fn always_an_image()
+    ensures { (s : JournalStore) → 1 ≤ s.entries → ∥ IsImageOf (image_of (journal_of s)) s.entries s.depth (records_of (journal_of s)) ∥₁ }
+{}

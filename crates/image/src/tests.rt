@@ -1,5 +1,11 @@
+use crate::copies::write_image;
 use crate::image::is_image;
+use crate::reading::read_image;
+use journal::JournalStore;
 use std::test::Fail;
+use store::reading::ReadingStore;
+use store::refusal::Refusal;
+use store::version::{OPENING, Version};
 
 const LEN: usize = 52;
 
@@ -10,6 +16,13 @@ const IMAGE: [u8; LEN] = [
     16, 0, 0, 0, // the last record of entry 0
     32, 0, 0, 0, 2, 0, 0, 0, 1, 0, 2, 0, 0x54, 0x52, 0x4C, 0x31,
 ];
+
+// The version that stands in it.
+const WRITTEN: Version = Version {
+    value: -1,
+    seat: 7,
+    serial: 3,
+};
 
 // The image with other bytes at a place.
 fn with(at: usize, bytes: &[u8]) -> [u8; LEN] {
@@ -90,5 +103,37 @@ fn damaged(rt: HostRuntime) -> Result<(), Fail> {
     }
     assert!(rt; is_image(&with(22, &[1, 0, 0, 0, 0, 0x80])));
     assert!(rt; is_image(&with(18, &[0x40, 0x42, 0x0F, 0])));
+    Ok(())
+}
+
+// The journal that the image is of writes it, and reads it again; the byte behind it stays.
+#[test]
+fn there_and_back(rt: HostRuntime) -> Result<(), Fail> {
+    let mut journal = JournalStore::over(vec![in rt.alloc(); 0xAB; 33]?);
+    let mut out = [9; LEN + 1];
+    assert_eq!(rt;
+        write_image(&journal, &mut out),
+        Err(Refusal::SizeOrSetting)
+    );
+    assert_eq!(rt;
+        read_image(&mut journal, &IMAGE[1..]),
+        Err(Refusal::NoImage)
+    );
+    assert_eq!(rt;
+        read_image(&mut journal, &with(46, &[3])),
+        Err(Refusal::MemoryTooShort)
+    );
+    assert_eq!(rt; read_image(&mut journal, &IMAGE), Ok(()));
+    assert_eq!(rt;
+        [journal.version(0, 0), journal.version(0, 1)],
+        [Some(OPENING), Some(WRITTEN)]
+    );
+    assert_eq!(rt;
+        write_image(&journal, &mut out[..LEN - 1]),
+        Err(Refusal::MemoryTooShort)
+    );
+    assert_eq!(rt; write_image(&journal, &mut out), Ok(LEN));
+    assert!(rt; out.starts_with(&IMAGE));
+    assert_eq!(rt; out[LEN], 9);
     Ok(())
 }
