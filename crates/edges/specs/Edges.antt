@@ -1,5 +1,5 @@
 -- The edge cases of the pool and of what it stands on. A refusal is told by its number.
-use Rattle.std.specs.Prelude.{◌≡◌, ◌+◌, ◌^◌, ◌≤◌, true, false, replicate, List, [], ◌∷◌, ℤ, pos, negsuc, neg_ℤ, Ok, Err, Some, slice_set}
+use Rattle.std.specs.Prelude.{◌≡◌, ◌+◌, ◌^◌, ◌≤◌, true, false, replicate, List, [], ◌∷◌, ℤ, pos, negsuc, neg_ℤ, Ok, Err, Some, slice_set, codes}
 use Rattle.calls.specs.declared.call.Call.TheVariants.{Begin, Read, Write, Prepare, Vote, Decide, Finish, Close}
 use Rattle.calls.specs.declared.answer.Reply.TheVariants.{Serial, Value, Voted, Decided, Done}
 use Rattle.calls.specs.declared.answer.Decision.TheVariants.{Commit, Abort}
@@ -14,6 +14,11 @@ use Rattle.rules.specs.Settings.{entry_allows}
 use Rattle.rules.specs.Limits.{widest, limits_permit}
 use Rattle.rules.specs.Step.{longest_step, step_permits}
 use Rattle.table.specs.Layout.{laid_out}
+use Rattle.session_lines.specs.Grammar.{Reads, InReach, Scaled}
+use Rattle.session_lines.specs.Timescales.{factor}
+use Rattle.session_lines.specs.declared.timescale.Amount.TheVariants.{Hundred}
+use Rattle.session_lines.specs.declared.timescale.Unit.TheVariants.{Seconds}
+use Rattle.session_lines.specs.declared.timescale.Timescale.{Timescale}
 use Rattle.edges.specs.declared.played.Edge.{Edge}
 use Rattle.edges.specs.declared.played.Edge.TheVariants.{FilledChain, TwoReaders, LoneReader, EmptyEdit, OneNo}
 use Rattle.edges.specs.Trials.{Trial, ◌⇒◌, Answered, by_number, opened}
@@ -95,6 +100,10 @@ fives = entry_allows step_permits (slice_set (replicate 64 longest_step) 1 (reco
 abbrev pub valued : ℤ → Version
 valued z = record { value = z; seat = 0; serial = 1 }
 
+-- the largest timescale of a session
+abbrev pub hundred_seconds : Timescale
+hundred_seconds = record { amount = Hundred; unit = Seconds }
+
 -- ------------------------------------------------------------ the edge cases
 
 pub record Edges : Type 0 where
@@ -116,3 +125,6 @@ pub record Edges : Type 0 where
       × (fives 1 (pos 10) (pos 4) ≡ false)
       × (fives 1 (pos 10) (pos 16) ≡ false)
   pub one_no_aborts_although_a_vote_is_missing : (allows : Rule) → allows 1 (pos 0) (pos 6) ≡ false → Answered allows opened one_no
+  pub one_at_a_hundred_seconds_is_the_reach_and_two_is_beyond :
+      Reads InReach (factor hundred_seconds) (codes "1") (Scaled (pos (10 ^ 17)))
+      × ((z : ℤ) → Reads InReach (factor hundred_seconds) (codes "2") (Scaled z) → ⊥)
