@@ -160,8 +160,8 @@ fn memory_that_is_too_short(rt: HostRuntime) -> Result<(), Fail> {
     assert_eq!(rt; short.entries(), 0);
     let mut just = JournalStore::over(vec![in rt.alloc(); 7; 97]?);
     assert_eq!(rt; read_image(&mut just, &IMAGE), Ok(()));
-    assert_eq!(rt; &just.bytes()[..80], &IMAGE[..80]);
-    assert_eq!(rt; &just.bytes()[80..], &[7; 17][..]);
+    assert_eq!(rt; just.bytes().get(..80), Some(&IMAGE[..80]));
+    assert_eq!(rt; just.bytes().get(80..), Some(&[7; 17][..]));
     let mut out = [9; LEN - 1];
     assert_eq!(rt; write_image(&just, &mut out), Err(Refusal::MemoryTooShort));
     assert_eq!(rt; &out[..], &[9; LEN - 1][..]);
