@@ -3,13 +3,13 @@
 #![tactic(auto)]
 
 #[cfg(test)]
-mod edges;
+mod house_rules;
 #[cfg(test)]
 mod opening;
 #[cfg(test)]
 mod orders;
 #[cfg(test)]
-mod rules;
+mod played;
 #[cfg(test)]
 mod seen;
 #[cfg(test)]
