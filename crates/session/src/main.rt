@@ -2,12 +2,13 @@
 // table store, and prints what each line answered.
 #![tactic(auto)]
 
+use session_file::session::LONGEST_FILE;
 use session_run::session::session_text;
 use std::io::{BufRead, Read};
 use std::{env, fs};
 
 // One byte more than a session file may have: what follows makes no difference.
-const ENOUGH: u64 = 65_537;
+const ENOUGH: u64 = LONGEST_FILE as u64 + 1;
 
 fn main(rt: HostRuntime) -> anyhow::Result<()> {
     let mut file = Vec::new(rt.alloc());

@@ -5,6 +5,7 @@ ghost use Rattle.session_lines.specs.Sizes.{SizesLine};
 ghost use Rattle.session_lines.specs.Timescales.{TimescaleLine};
 ghost use Rattle.session_file.specs.Files.{First, FirstPartFault, SecondPartFault, NextCallFault};
 
+use crate::session::LONGEST_FILE;
 use calls::call::Call;
 use session_lines::call::read_call;
 use session_lines::fault::{Cause, LineFault, SessionFault};
@@ -12,9 +13,6 @@ use session_lines::sizes::{Sizes, read_sizes};
 use session_lines::timescale::{Timescale, read_timescale};
 use words::fault::WordFault;
 use words::line::first_line;
-
-// The most bytes that a file may have.
-const LONGEST_FILE: usize = 65_536;
 
 // The timescale that a file begins with, and what follows it.
 pub(crate) fn read_first(file: &[u8]) -> Result<(Timescale, &[u8]), SessionFault>

@@ -15,6 +15,9 @@ use std::alloc::{AllocError, AllocFailed, Global};
 use std::error::Error;
 use std::fmt;
 
+// The most bytes that a session file may have.
+pub const LONGEST_FILE: usize = 65_536;
+
 // The line of the first call. Each line after it is a call too.
 pub const FIRST_CALL: usize = 3;
 
