@@ -1,5 +1,5 @@
 -- What is written of a journal is its image.
-use Rattle.std.proofs.Common.{◌≡◌, ℕ, zero, suc, ◌+◌, ◌*◌, ◌/◌, ◌<◌, ◌≤◌, List, ◌++◌, length, get_or, Some, Ok, Err, Bool, true, false, cond, Result, refl, sym, ap, ◌∙◌, arith}
+use Rattle.std.proofs.Common.{◌≡◌, ℕ, zero, suc, ◌+◌, ◌*◌, ◌/◌, ◌<◌, ◌≤◌, List, ◌++◌, length, get_or, Some, Ok, Err, Result, refl, sym, ap, ◌∙◌, arith}
 use Rattle.std.specs.Int.{w32, to_le_bytes}
 use Rattle.std.proofs.lemmas.List.{length-append}
 use Rattle.std.proofs.lemmas.Bool.{cond-true, cond-false, lt-ltb, le-leb, lt-leb}
@@ -10,13 +10,12 @@ use Rattle.record.specs.Journals.{last_place, records_bytes, written}
 use Rattle.record.proofs.Written.{written_more, length_records_bytes, length_records}
 use Rattle.journal.specs.declared.JournalStore.{JournalStore}
 use Rattle.journal.specs.Journal.{records_of}
-use Rattle.journal.specs.Stores.{journal_of, journal_writing, memory}
+use Rattle.journal.specs.Stores.{journal_of, memory}
 use Rattle.journal.proofs.Writes.{count_short}
-use Rattle.image.specs.Images.{trailer_bytes, trailer_of, places_bytes, tail_bytes, image_bytes, IsImageOf}
+use Rattle.image.specs.Images.{trailer_bytes, trailer_of, places_bytes, tail_bytes}
 use Rattle.image.specs.Heads.{numbers_bytes}
-use Rattle.std.specs.Result.{OnOk, IfOk}
-use Rattle.store.specs.declared.refusal.Refusal.{Refusal}
-use Rattle.image.specs.Copies.{image_of, write_answer, out_after, filled}
+use Rattle.std.specs.Result.{OnOk}
+use Rattle.image.specs.Copies.{image_of, write_answer}
 use Rattle.image.proofs.Tails.{length_places, length_trailer}
 
 module _ (s : JournalStore) where
@@ -40,12 +39,12 @@ module _ (s : JournalStore) where
         length_trailer (trailer_of (length rs) s.entries s.depth),
       )
 
-  pub too_short : (room : ℕ) → 0 < s.entries → room < length front + 4 * s.entries + 16 → Err MemoryTooShort ≡ write_answer (journal_of s) room
-  too_short room some short = sym (cond-true _ _ _ (lt-ltb 0 s.entries some) ∙ cond-false _ _ _ (lt-leb (length (image_of (journal_of s))) room (omega (arith, length_of))))
+  pub too_short : (out : List ℕ) → 0 < s.entries → length out < length front + 4 * s.entries + 16 → Err MemoryTooShort ≡ write_answer (journal_of s) out
+  too_short out some short = sym (cond-true _ _ _ (lt-ltb 0 s.entries some) ∙ cond-false _ _ _ (lt-leb (length (image_of (journal_of s))) (length out) (omega (arith, length_of))))
 
-  pub tells_length : (room n : ℕ) → 0 < s.entries → n ≡ length front + 4 * s.entries + 16 → n ≤ room → Ok n ≡ write_answer (journal_of s) room
-  tells_length room n some is long =
-      ap (λ k. Ok k) (is ∙ sym length_of) ∙ sym (cond-true _ _ _ (lt-ltb 0 s.entries some) ∙ cond-true _ _ _ (le-leb (length (image_of (journal_of s))) room (omega (arith, length_of))))
+  pub tells_length : (out : List ℕ) (n : ℕ) → 0 < s.entries → n ≡ length front + 4 * s.entries + 16 → n ≤ length out → Ok n ≡ write_answer (journal_of s) out
+  tells_length out n some is long =
+      ap (λ k. Ok k) (is ∙ sym length_of) ∙ sym (cond-true _ _ _ (lt-ltb 0 s.entries some) ∙ cond-true _ _ _ (le-leb (length (image_of (journal_of s))) (length out) (omega (arith, length_of))))
 
   module _ (lasts : List ℕ) (places : (e : ℕ) → e < s.entries → last_place rs e ≡ Some (get_or lasts e 0)) where
     numbers_are : (n : ℕ) → n ≤ s.entries → numbers_bytes lasts n ≡ places_bytes rs n
@@ -67,19 +66,3 @@ on_ok_any P (Err e) p = tt
 
 pub found_on_ok : {T E : Type 0} {P : Type 0} (r : Result T E) → P → OnOk r P
 found_on_ok {T} {E} {P} r p = on_ok_any P r p
-
-one_ok : (a b : Bool) (n x : ℕ) (e f : Refusal) → Ok n ≡ cond a (cond b (Ok x) (Err e)) (Err f) → n ≡ x
-one_ok true true n x e f is = cc
-one_ok true false n x e f is = absurd (cc)
-one_ok false b n x e f is = absurd (cc)
-
--- a journal with an image's records has that image
-pub image_same : (s : JournalStore) (m d : ℕ) (qs : List Record) (image : List ℕ) → IsImageOf image m d qs → journal_writing s ≡ filled m d qs → records_of (journal_of s) ≡ qs → image_of (journal_of s) ≡ image
-image_same s m d qs image is means held =
-    (λ i. image_bytes ((means i).reading.entries) ((means i).reading.depth) (held i)) ∙ sym is.bytes_are
-
-pub rewrites : (s : JournalStore) (image out now : List ℕ) (r : Result ℕ Refusal) → image_of (journal_of s) ≡ image → r ≡ write_answer (journal_of s) (length out) → now ≡ out_after (journal_of s) out r
-    → IfOk r (λ len. (len ≡ length image) × (now ≡ written out 0 image))
-rewrites s image out now (Ok n) same answer bytes =
-    (one_ok _ _ n (length (image_of (journal_of s))) _ _ answer ∙ ap length same, bytes ∙ ap (written out 0) same)
-rewrites s image out now (Err e) same answer bytes = tt

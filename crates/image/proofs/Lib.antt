@@ -2,3 +2,4 @@ pub mod Passes
 pub mod Tails
 pub mod Copied
 pub mod Refilled
+pub mod Rewritten

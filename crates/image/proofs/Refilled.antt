@@ -18,6 +18,8 @@ use Rattle.journal.specs.Journal.{records_of, beside, bytes_with, publish_bytes,
 use Rattle.journal.specs.Stores.{journal_of, journal_writing, memory}
 use Rattle.image.specs.Heads.{MayCome}
 use Rattle.image.specs.declared.trailer.Trailer.{Trailer}
+use Rattle.std.specs.Option.{IfSome}
+use Rattle.image.specs.declared.image.Contents.{Contents}
 use Rattle.image.specs.Images.{IsImageOf}
 use Rattle.image.specs.Copies.{filled, Reads}
 use Rattle.image.proofs.Passes.{opens, no_fewer, comes, read_is, read_one}
@@ -131,7 +133,7 @@ pub lay_refused : (before after : JournalStore) (m d : ℕ) (rs : List Record) (
     → Err refusal ≡ lay_answer (length (memory before) / 16) m d → journal_writing after ≡ journal_writing before → memory after ≡ memory before
     → records_of (journal_of after) ≡ records_of (journal_of before) → Reads before m d rs (Err refusal) after
 lay_refused before after m d rs refusal fit answer means bytes held =
-    record { answers = answer ∙ cond-true _ _ _ fit; means = means; bytes = bytes; records = held }
+    record { answers = answer ∙ cond-true _ _ _ fit; fills = record { means = means; bytes = bytes; records = held } }
 
 -- laid out, the store has the opening records, which are the image's first
 pub lay_filled : (before after : JournalStore) (m d : ℕ) (image : List ℕ) → records image m ≡ openings m
@@ -146,7 +148,7 @@ lay_filled before after m d image first means bytes held = record {
 pub all_filled : (before now : JournalStore) (m d : ℕ) (image : List ℕ) (n : ℕ) → sizes_fit m d ≡ true → Ok tt ≡ lay_answer (length (memory before) / 16) m d
     → IsFilled before m d image n now → Reads before m d (records image n) (Ok tt) now
 all_filled before now m d image n fit answer now_filled =
-    record { answers = answer ∙ cond-true _ _ _ fit; means = now_filled.means; bytes = now_filled.bytes; records = now_filled.held }
+    record { answers = answer ∙ cond-true _ _ _ fit; fills = record { means = now_filled.means; bytes = now_filled.bytes; records = now_filled.held } }
 
 -- what an image says of its records
 module _ (image : List ℕ) (m d n : ℕ) (is : IsImageOf image m d (records image n)) where
@@ -182,3 +184,15 @@ one_image bytes m d a b rs qs x y =
       ap (λ (t : Trailer). t.depth) same,
       sym (records_are bytes m d rs x) ∙ ap (λ (t : Trailer). records bytes t.count) same ∙ records_are bytes a b qs y,
     )
+
+-- so what holds of one reading of an image holds of each
+pub of_each : (bytes : List ℕ) (a b : ℕ) (qs : List Record) (P : ℕ → ℕ → List Record → Type 0) → IsImageOf bytes a b qs → P a b qs → (m d : ℕ) (rs : List Record) → IsImageOf bytes m d rs
+    → P m d rs
+of_each bytes a b qs P mine p m d rs image =
+    let same = one_image bytes a b m d qs rs mine image in
+    subst (λ (n : ℕ). P n d rs) same.0 (subst (λ (k : ℕ). P a k rs) same.1 (subst (λ (xs : List Record). P a b xs) same.2 p))
+
+-- what was found in the bytes
+pub found_image : (bytes : List ℕ) (o : Option Contents) (t : Contents) → IfSome o (λ has. IsImageOf bytes has.entries has.depth (records bytes has.count)) → Some t ≡ o
+    → IsImageOf bytes t.entries t.depth (records bytes t.count)
+found_image bytes o t found is = subst (λ (x : Option Contents). IfSome x (λ has. IsImageOf bytes has.entries has.depth (records bytes has.count))) (sym is) found

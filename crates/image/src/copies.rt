@@ -1,9 +1,9 @@
-ghost use Rattle.std.specs.Prelude.{◌≡◌, ℕ, ◌<◌, Some, List, length, slice_index};
+ghost use Rattle.std.specs.Prelude.{◌≡◌, ℕ, ◌<◌, Some, List, slice_index};
 ghost use Rattle.record.specs.declared.record.Record.{Record};
 ghost use Rattle.record.specs.Journals.{last_place};
 ghost use Rattle.journal.specs.Journal.{records_of};
 ghost use Rattle.journal.specs.Stores.{journal_of};
-ghost use Rattle.image.specs.Copies.{write_answer, out_after};
+ghost use Rattle.image.specs.Copies.{image_of, write_answer, out_after};
 
 use crate::image::{MOST_TAIL, PLACE, put, write_tail};
 use crate::trailer::{self, Trailer};
@@ -16,8 +16,8 @@ use store::sizes::MOST_ENTRIES;
 // Writes the image of a journal from the start of the memory on, and answers how many bytes it has.
 // Refused where nothing is laid out, and then where the memory is too short; no other byte changes.
 pub fn write_image(journal: &JournalStore, out: &mut [u8]) -> Result<usize, Refusal>
-    ensures answer { result ≡ write_answer (journal_of journal.now) (length out.old) }
-    ensures bytes { out.new ≡ out_after (journal_of journal.now) out.old result }
+    ensures answer { result ≡ write_answer (journal_of journal.now) out.old }
+    ensures bytes { out.new ≡ out_after (image_of (journal_of journal.now)) out.old result }
 {
     let entries = journal.entries();
     if entries == 0 {

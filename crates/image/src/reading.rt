@@ -1,11 +1,11 @@
-ghost use Rattle.std.specs.Prelude.{◌≡◌, ℕ, ◌≤◌, List, length, IfOk, OnOk};
+ghost use Rattle.std.specs.Prelude.{◌≡◌, ℕ, ◌≤◌, List, OnOk};
 ghost use Rattle.record.specs.declared.record.Record.{Record};
-ghost use Rattle.record.specs.Journals.{records, written};
+ghost use Rattle.record.specs.Journals.{records};
 ghost use Rattle.journal.specs.declared.JournalStore.{JournalStore};
 ghost use Rattle.journal.specs.Journal.{records_of};
 ghost use Rattle.journal.specs.Stores.{journal_of};
 ghost use Rattle.image.specs.Images.{IsImage, IsImageOf};
-ghost use Rattle.image.specs.Copies.{Reads, Refuses, image_of};
+ghost use Rattle.image.specs.Copies.{Reads, Refuses, Rewrites, image_of};
 
 use crate::copies::write_image;
 use crate::image::{Contents, contents_of};
@@ -45,11 +45,17 @@ fn refill(journal: &mut JournalStore, image: &[u8], contents: Contents) -> Resul
     Ok(())
 }
 
-// Reads an image into a journal, and writes the journal's image: the same bytes.
+// Reads an image into a journal, and writes the journal's image: the same bytes. Refused where the bytes are no image, and then
+// where the journal or the memory to be written has too little room for it; nothing changes then.
 pub fn rewrite(journal: &mut JournalStore, image: &[u8], out: &mut [u8]) -> Result<usize, Refusal>
-    ensures { IfOk result (λ len. (len ≡ length image.now) × (out.new ≡ written out.old 0 image.now)) }
+    ensures image { (entries depth : ℕ) (rs : List Record) → IsImageOf image.now entries depth rs → Rewrites journal.old entries depth rs image.now out.old result journal.new out.new }
+    ensures other { (IsImage image.now → ⊥) → Refuses journal.old result journal.new × (out.new ≡ out.old) }
 {
-    read_image(journal, image)?;
+    let contents = contents_of(image).ok_or(Refusal::NoImage)?;
+    if out.len() < image.len() {
+        return Err(Refusal::MemoryTooShort);
+    }
+    refill(journal, image, contents)?;
     write_image(journal, out)
 }
 

@@ -7,7 +7,7 @@ use Rattle.image.proofs.copies.write_image.Goals as goal
 
 pub returns-then-out-len-clause-answer : goal.returns-then-out-len-clause-answer
 returns-then-out-len-clause-answer c =
-    too_short c.args.journal.now (length c.args.out.now) (omega (arith, c.entries-entries.ensures, c.if-entries-eq0.false)) (omega (arith, ap length c.records-records.ensures, c.entries-entries.ensures))
+    too_short c.args.journal.now c.args.out.now (omega (arith, c.entries-entries.ensures, c.if-entries-eq0.false)) (omega (arith, ap length c.records-records.ensures, c.entries-entries.ensures))
 
 pub overflow_cast-trailer : goal.overflow_cast-trailer
 overflow_cast-trailer c = omega (arith, ap length c.records-records.ensures, front_short c.args.journal.now)
@@ -17,7 +17,7 @@ overflow_cast-trailer-2 c = omega (arith, ap length c.records-records.ensures, f
 
 pub returns-clause-answer : goal.returns-clause-answer
 returns-clause-answer c =
-    tells_length c.args.journal.now (length c.args.out.now) _ (omega (arith, c.entries-entries.ensures, c.if-entries-eq0.false)) (omega (arith, ap length c.records-records.ensures, c.entries-entries.ensures)) (omega arith)
+    tells_length c.args.journal.now c.args.out.now _ (omega (arith, c.entries-entries.ensures, c.if-entries-eq0.false)) (omega (arith, ap length c.records-records.ensures, c.entries-entries.ensures)) (omega arith)
 
 pub returns-clause-bytes : goal.returns-clause-bytes
 returns-clause-bytes c =
