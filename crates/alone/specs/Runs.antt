@@ -1,5 +1,5 @@
 -- The calls of a pool by their names, and the moments that a list of them leads to.
-use Rattle.std.specs.Prelude.{◌≡◌, ℕ, Bool, List, [], ◌∷◌, length, Ok, Err, Result}
+use Rattle.std.specs.Prelude.{◌≡◌, ℕ, true, false, Bool, List, [], ◌∷◌, length, Ok, Err, Result}
 use Rattle.calls.specs.declared.fault.Fault.{Fault}
 use Rattle.calls.specs.declared.call.Call.{Call}
 use Rattle.calls.specs.declared.call.Call.TheVariants.{Begin, Read, Write, Prepare, Vote, Decide, Abort, Finish, Close}
@@ -43,6 +43,18 @@ after_call allows s (Decide p) = after (decide s p) s
 after_call allows s (Abort p) = after (abort s p) s
 after_call allows s (Finish p e) = after (finish s p e) s
 after_call allows s (Close p) = after (close s p) s
+
+-- only a write and a finish touch the store
+abbrev pub spares_store : Call → Bool
+spares_store (Begin p) = true
+spares_store (Read p e) = true
+spares_store (Write p e z) = false
+spares_store (Prepare p) = true
+spares_store (Vote p e) = true
+spares_store (Decide p) = true
+spares_store (Abort p) = true
+spares_store (Finish p e) = false
+spares_store (Close p) = true
 
 -- a pool that was opened, and then had these calls made on it and nothing else
 pub data Reached (allows : Rule) (before : Moment) (seats : ℕ) : List Line → Moment → Type 0 where

@@ -1,6 +1,6 @@
-ghost use Rattle.std.specs.Prelude.{◌≡◌};
+ghost use Rattle.std.specs.Prelude.{◌≡◌, IsTrue, OnErr};
 ghost use Rattle.pool.specs.Pools.{at};
-ghost use Rattle.alone.specs.Runs.{answer_of, after_call};
+ghost use Rattle.alone.specs.Runs.{answer_of, after_call, spares_store};
 
 use calls::answer::{Answer, Reply};
 use calls::call::Call;
@@ -15,6 +15,8 @@ pub fn make<S: WritingStore, R: HouseRule>(pool: &mut Pool<S, R>, call: Call) ->
     ensures answers { result ≡ answer_of (R.HouseRule.allowed pool.old.rule) (at S.ReadingStore.reading S.WritingStore.staged pool.old) call }
     ensures leaves { at S.ReadingStore.reading S.WritingStore.staged pool.new ≡ after_call (R.HouseRule.allowed pool.old.rule) (at S.ReadingStore.reading S.WritingStore.staged pool.old) call }
     ensures rule { pool.new.rule ≡ pool.old.rule }
+    ensures store { IsTrue (spares_store call) → pool.new.store ≡ pool.old.store }
+    ensures refused { OnErr result (pool.new ≡ pool.old) }
 {
     match call {
         Call::Begin { seat } => pool.begin(seat).map(Reply::Serial),

@@ -1,4 +1,4 @@
-ghost use Rattle.std.specs.Prelude.{◌≡◌, ◌≤◌, [], length, IfOk, vec_len, vec_capacity, MatchResult, Some};
+ghost use Rattle.std.specs.Prelude.{◌≡◌, ◌≤◌, [], length, IfOk, OnErr, vec_len, vec_capacity, MatchResult, Some};
 ghost use Rattle.pool.specs.Pools.{at};
 ghost use Rattle.law.specs.Histories.{history};
 ghost use Rattle.law.specs.Promise.{AsIfAlone};
@@ -80,6 +80,7 @@ pub fn run<S: WritingStore, R: HouseRule>(
 ) -> Result<Vec<Answer>, Stop>
     ensures alone { IfOk result (λ answers. AsIfAlone (R.HouseRule.allowed pool.old.rule) (chains (at S.ReadingStore.reading S.WritingStore.staged pool.old)) (chains (at S.ReadingStore.reading S.WritingStore.staged pool.new)) (holders (at S.ReadingStore.reading S.WritingStore.staged pool.new)) (history [] calls.now answers.items)) }
     ensures steps { MatchResult result (λ answers. Ran (R.HouseRule.allowed pool.old.rule) (at S.ReadingStore.reading S.WritingStore.staged pool.old) seats calls.now answers.items (at S.ReadingStore.reading S.WritingStore.staged pool.new)) (λ stop. Stopped stop (at S.ReadingStore.reading S.WritingStore.staged pool.old) seats (at S.ReadingStore.reading S.WritingStore.staged pool.new)) }
+    ensures stopped { OnErr result (pool.new ≡ pool.old) }
     ensures rule { pool.new.rule ≡ pool.old.rule }
 {
     let mut answers = Vec::with_capacity(heap, calls.len())?;

@@ -1,4 +1,4 @@
-ghost use Rattle.std.specs.Prelude.{◌≡◌};
+ghost use Rattle.std.specs.Prelude.{◌≡◌, OnErr};
 ghost use Rattle.store.specs.Steps.{Stages, Publishes, Withdraws};
 ghost use Rattle.journal.specs.Journal.{records_of, publish_bytes, publish_records};
 ghost use Rattle.journal.specs.Stores.{journal_of, journal_staged, journal_writing, memory};
@@ -24,6 +24,7 @@ impl WritingStore for JournalStore {
     #[tactic(auto, using(crate::specs::Rows::chain_length, crate::proofs::Writes::stages))]
     fn stage(&mut self, entry: usize, version: Version) -> Result<(), Refusal>
         ensures means { Stages (journal_writing self.old) entry version result (journal_writing self.new) }
+        ensures refused { OnErr result (self.new ≡ self.old) }
         ensures bytes { memory self.new ≡ memory self.old }
         ensures records { records_of (journal_of self.new) ≡ records_of (journal_of self.old) }
     {
@@ -43,6 +44,7 @@ impl WritingStore for JournalStore {
 
     fn publish(&mut self, entry: usize) -> Result<(), Refusal>
         ensures means { Publishes (journal_writing self.old) entry result (journal_writing self.new) }
+        ensures refused { OnErr result (self.new ≡ self.old) }
         ensures bytes { memory self.new ≡ publish_bytes (journal_of self.old) entry }
         ensures records { records_of (journal_of self.new) ≡ publish_records (journal_of self.old) entry }
     {
@@ -70,6 +72,7 @@ impl WritingStore for JournalStore {
     #[tactic(auto, using(crate::proofs::Writes::withdraws))]
     fn withdraw(&mut self, entry: usize) -> Result<(), Refusal>
         ensures means { Withdraws (journal_writing self.old) entry result (journal_writing self.new) }
+        ensures refused { OnErr result (self.new ≡ self.old) }
         ensures bytes { memory self.new ≡ memory self.old }
         ensures records { records_of (journal_of self.new) ≡ records_of (journal_of self.old) }
     {

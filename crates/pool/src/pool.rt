@@ -82,7 +82,8 @@ impl<S: WritingStore, R: HouseRule> Pool<S, R> {
     }
 
     pub fn begin(&mut self, seat: usize) -> Result<u32, Fault>
-        ensures { Makes S.ReadingStore.reading S.WritingStore.staged self.old (λ s. begin s seat) result self.new }
+        ensures makes { Makes S.ReadingStore.reading S.WritingStore.staged self.old (λ s. begin s seat) result self.new }
+        ensures store { self.new.store ≡ self.old.store }
     {
         let Turn { seat, next } = self.check(Step::Begin, seat)?;
         let Place { serial, .. } = self.table.places[seat.number];
@@ -97,7 +98,8 @@ impl<S: WritingStore, R: HouseRule> Pool<S, R> {
     }
 
     pub fn read(&mut self, seat: usize, entry: usize) -> Result<i64, Fault>
-        ensures { Makes S.ReadingStore.reading S.WritingStore.staged self.old (λ s. read s seat entry) result self.new }
+        ensures makes { Makes S.ReadingStore.reading S.WritingStore.staged self.old (λ s. read s seat entry) result self.new }
+        ensures store { self.new.store ≡ self.old.store }
     {
         let seat = self.check_at(Step::Read, seat, entry)?.seat;
         let row = self.table.rows[entry].shared(seat)?;
@@ -126,13 +128,15 @@ impl<S: WritingStore, R: HouseRule> Pool<S, R> {
     }
 
     pub fn prepare(&mut self, seat: usize) -> Result<(), Fault>
-        ensures { Makes S.ReadingStore.reading S.WritingStore.staged self.old (λ s. prepare s seat) result self.new }
+        ensures makes { Makes S.ReadingStore.reading S.WritingStore.staged self.old (λ s. prepare s seat) result self.new }
+        ensures store { self.new.store ≡ self.old.store }
     {
         self.step(Step::Prepare, seat)
     }
 
     pub fn vote(&mut self, seat: usize, entry: usize) -> Result<bool, Fault>
-        ensures { Makes S.ReadingStore.reading S.WritingStore.staged self.old (λ s. vote (R.HouseRule.allowed self.old.rule) s seat entry) result self.new }
+        ensures makes { Makes S.ReadingStore.reading S.WritingStore.staged self.old (λ s. vote (R.HouseRule.allowed self.old.rule) s seat entry) result self.new }
+        ensures store { self.new.store ≡ self.old.store }
     {
         let seat = self.check_at(Step::Vote, seat, entry)?.seat;
         let row = self.table.rows[entry];
@@ -148,7 +152,8 @@ impl<S: WritingStore, R: HouseRule> Pool<S, R> {
     }
 
     pub fn decide(&mut self, seat: usize) -> Result<Decision, Fault>
-        ensures { Makes S.ReadingStore.reading S.WritingStore.staged self.old (λ s. decide s seat) result self.new }
+        ensures makes { Makes S.ReadingStore.reading S.WritingStore.staged self.old (λ s. decide s seat) result self.new }
+        ensures store { self.new.store ≡ self.old.store }
     {
         let Turn { seat, next } = self.check(Step::Decide, seat)?;
         if self.table.has_no_of(seat) {
@@ -163,7 +168,8 @@ impl<S: WritingStore, R: HouseRule> Pool<S, R> {
     }
 
     pub fn abort(&mut self, seat: usize) -> Result<(), Fault>
-        ensures { Makes S.ReadingStore.reading S.WritingStore.staged self.old (λ s. abort s seat) result self.new }
+        ensures makes { Makes S.ReadingStore.reading S.WritingStore.staged self.old (λ s. abort s seat) result self.new }
+        ensures store { self.new.store ≡ self.old.store }
     {
         self.step(Step::Abort, seat)
     }
@@ -187,7 +193,8 @@ impl<S: WritingStore, R: HouseRule> Pool<S, R> {
     }
 
     pub fn close(&mut self, seat: usize) -> Result<(), Fault>
-        ensures { Makes S.ReadingStore.reading S.WritingStore.staged self.old (λ s. close s seat) result self.new }
+        ensures makes { Makes S.ReadingStore.reading S.WritingStore.staged self.old (λ s. close s seat) result self.new }
+        ensures store { self.new.store ≡ self.old.store }
     {
         let Turn { seat, next } = self.check(Step::Close, seat)?;
         if self.table.has_lock_of(seat) {
@@ -199,7 +206,8 @@ impl<S: WritingStore, R: HouseRule> Pool<S, R> {
 
     // A call that only leads to another state.
     fn step(&mut self, step: Step, seat: usize) -> Result<(), Fault>
-        ensures { Makes S.ReadingStore.reading S.WritingStore.staged self.old (λ s. only_steps step s seat) result self.new }
+        ensures makes { Makes S.ReadingStore.reading S.WritingStore.staged self.old (λ s. only_steps step s seat) result self.new }
+        ensures store { self.new.store ≡ self.old.store }
     {
         let Turn { seat, next } = self.check(step, seat)?;
         self.table.places[seat.number].state = next;

@@ -1,4 +1,4 @@
-ghost use Rattle.std.specs.Prelude.{◌≡◌};
+ghost use Rattle.std.specs.Prelude.{◌≡◌, OnErr};
 ghost use Rattle.store.specs.Steps.{Stages, Publishes, Withdraws};
 ghost use Rattle.table.specs.Table.{publish_cells};
 ghost use Rattle.table.specs.Stores.{table_of, table_staged, table_writing, memory};
@@ -22,6 +22,7 @@ impl WritingStore for TableStore {
     #[tactic(auto, using(crate::specs::Rows::chain_length, crate::proofs::Writes::stages))]
     fn stage(&mut self, entry: usize, version: Version) -> Result<(), Refusal>
         ensures means { Stages (table_writing self.old) entry version result (table_writing self.new) }
+        ensures refused { OnErr result (self.new ≡ self.old) }
         ensures cells { memory self.new ≡ memory self.old }
     {
         let row = self.row(entry)?;
@@ -41,6 +42,7 @@ impl WritingStore for TableStore {
     #[tactic(auto, using(crate::specs::Rows::row_ends))]
     fn publish(&mut self, entry: usize) -> Result<(), Refusal>
         ensures means { Publishes (table_writing self.old) entry result (table_writing self.new) }
+        ensures refused { OnErr result (self.new ≡ self.old) }
         ensures cells { memory self.new ≡ publish_cells (table_of self.old) entry }
     {
         let row = self.row(entry)?;
@@ -56,6 +58,7 @@ impl WritingStore for TableStore {
     #[tactic(auto, using(crate::proofs::Writes::withdraws))]
     fn withdraw(&mut self, entry: usize) -> Result<(), Refusal>
         ensures means { Withdraws (table_writing self.old) entry result (table_writing self.new) }
+        ensures refused { OnErr result (self.new ≡ self.old) }
         ensures cells { memory self.new ≡ memory self.old }
     {
         let row = self.row(entry)?;

@@ -1,4 +1,5 @@
 ghost use Rattle.std.specs.Prelude.{◌≡◌, ◌<◌, IfOk};
+ghost use Rattle.tickets.specs.declared.fate.Fate.TheVariants.{Gone};
 ghost use Rattle.pool.specs.Pools.{at, Makes};
 ghost use Rattle.tickets.specs.Tickets.{take, settle_calls, give_up_calls, settle_fate, give_up_fate, Ended};
 
@@ -31,6 +32,7 @@ pub fn settle<S: WritingStore, R: HouseRule>(pool: &mut Pool<S, R>, ticket: &mut
     ensures ended { Ended (R.HouseRule.allowed pool.old.rule) (at S.ReadingStore.reading S.WritingStore.staged pool.old) ticket.old.seat (settle_calls (at S.ReadingStore.reading S.WritingStore.staged pool.old) ticket.old.seat ticket.old.serial) result (at S.ReadingStore.reading S.WritingStore.staged pool.new) }
     ensures spent { ticket.new ≡ record { seat = ticket.old.seat; serial = 0 } }
     ensures rule { pool.new.rule ≡ pool.old.rule }
+    ensures gone { result ≡ Gone → pool.new ≡ pool.old }
 {
     let unsettled = edit_of(pool, ticket.seat, ticket.serial);
     ticket.serial = 0;
@@ -47,6 +49,7 @@ pub fn give_up<S: WritingStore, R: HouseRule>(pool: &mut Pool<S, R>, ticket: &mu
     ensures ended { Ended (R.HouseRule.allowed pool.old.rule) (at S.ReadingStore.reading S.WritingStore.staged pool.old) ticket.old.seat (give_up_calls (at S.ReadingStore.reading S.WritingStore.staged pool.old) ticket.old.seat ticket.old.serial) result (at S.ReadingStore.reading S.WritingStore.staged pool.new) }
     ensures spent { ticket.new ≡ record { seat = ticket.old.seat; serial = 0 } }
     ensures rule { pool.new.rule ≡ pool.old.rule }
+    ensures gone { result ≡ Gone → pool.new ≡ pool.old }
 {
     let unwanted = edit_of(pool, ticket.seat, ticket.serial);
     ticket.serial = 0;

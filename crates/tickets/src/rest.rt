@@ -1,7 +1,8 @@
 // The calls that are left of an edit. Each function here makes some of them, in their order. Pool and seat stay two parameters:
 // a struct with the `&mut Pool` in it would put two names into every contract where now one stands.
-ghost use Rattle.std.specs.Prelude.{◌≡◌, ◌<◌, MatchOption};
+ghost use Rattle.std.specs.Prelude.{◌≡◌, ◌≢◌, ◌<◌, MatchOption};
 ghost use Rattle.calls.specs.declared.state.State.TheVariants.{Idle};
+ghost use Rattle.tickets.specs.declared.fate.Fate.TheVariants.{Gone};
 ghost use Rattle.law.specs.Histories.{said};
 ghost use Rattle.pool.specs.Tables.{row_at};
 ghost use Rattle.pool.specs.Scans.{is_holder, lacks_vote};
@@ -106,7 +107,8 @@ fn wind_up<S: WritingStore, R: HouseRule>(pool: &mut Pool<S, R>, seat: Seat)
 
 // What a decide says of the edit.
 fn fate_by(answer: Answer) -> Fate
-    ensures { result ≡ fate_by (said answer) }
+    ensures says { result ≡ fate_by (said answer) }
+    ensures not_gone { result ≢ Gone }
 {
     match answer {
         Ok(Reply::Decided(Decision::Commit)) => Fate::Commit,
@@ -118,6 +120,7 @@ fn fate_by(answer: Answer) -> Fate
 fn conclude<S: WritingStore, R: HouseRule>(pool: &mut Pool<S, R>, seat: Seat) -> Fate
     ensures answers { result ≡ decided_after (R.HouseRule.allowed pool.old.rule) (at S.ReadingStore.reading S.WritingStore.staged pool.old) seat.number (votes (at S.ReadingStore.reading S.WritingStore.staged pool.old) seat.number) }
     ensures called { Called R.HouseRule.allowed S.ReadingStore.reading S.WritingStore.staged pool.old (λ s. conclude s seat.number) pool.new }
+    ensures not_gone { result ≢ Gone }
 {
     vote_all(pool, seat);
     let fate = fate_by(make(pool, Call::Decide { seat: seat.number }));
@@ -129,6 +132,7 @@ impl Edit {
     pub(crate) fn settle<S: WritingStore, R: HouseRule>(self, pool: &mut Pool<S, R>) -> Fate
         ensures answers { result ≡ settled (R.HouseRule.allowed pool.old.rule) (at S.ReadingStore.reading S.WritingStore.staged pool.old) self.seat.number self.state }
         ensures called { Called R.HouseRule.allowed S.ReadingStore.reading S.WritingStore.staged pool.old (λ s. settling s self.seat.number self.state) pool.new }
+        ensures gone { result ≡ Gone → pool.new ≡ pool.old }
     {
         match self.state {
             State::Idle => Fate::Gone,
@@ -156,6 +160,7 @@ impl Edit {
     pub(crate) fn give_up<S: WritingStore, R: HouseRule>(self, pool: &mut Pool<S, R>) -> Fate
         ensures answers { result ≡ given_up (R.HouseRule.allowed pool.old.rule) (at S.ReadingStore.reading S.WritingStore.staged pool.old) self.seat.number self.state }
         ensures called { Called R.HouseRule.allowed S.ReadingStore.reading S.WritingStore.staged pool.old (λ s. giving_up s self.seat.number self.state) pool.new }
+        ensures gone { result ≡ Gone → pool.new ≡ pool.old }
     {
         match self.state {
             State::Editing | State::Voting => {

@@ -25,5 +25,6 @@ returns g c =
     record {
       alone = alone allows before seats (g.met.S.ReadingStore.readable c.args.pool.now.store).entries_most reached;
       steps = record { each = c.make_all.ensures.each; reached = reached };
+      stopped = tt;
       rule = c.make_all.ensures.rule ∙ c.open.ensures.rule;
     }

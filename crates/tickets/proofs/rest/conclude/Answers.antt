@@ -18,7 +18,8 @@ returns g c =
     let decided = c.make.new.pool in
     let same = ap allowed c.vote_all.ensures.rule in
     record {
-      answers = c.fate_by-fate.ensures ∙ ap (λ a. fate_by (said a)) c.make.ensures.answers
+      not_gone = c.fate_by-fate.ensures.not_gone;
+      answers = c.fate_by-fate.ensures.says ∙ ap (λ a. fate_by (said a)) c.make.ensures.answers
           ∙ ap₂ (λ (f : Rule) (m : Moment). fate_by (said (answer_of f m (C.Decide p)))) same c.vote_all.ensures.leaves;
       called = record {
         leaves = conclude_made (allowed c.args.pool.now.rule) (allowed voted.rule) (allowed decided.rule) same (ap allowed (c.make.ensures.rule ∙ c.vote_all.ensures.rule))

@@ -17,6 +17,7 @@ returns-in-Editing g c =
     let same = ap allowed c.make.ensures.rule in
     let is = sym c.in-Editing.is in
     record {
+      gone = λ gone. absurd (c.conclude.ensures.not_gone gone);
       answers = c.conclude.ensures.answers ∙ prepare_fate allows (allowed prepared.rule) same s (moment prepared) p c.make.ensures.leaves ∙ ap (settled allows s p) is;
       called = record {
         leaves = prepare_made allows (allowed prepared.rule) same s (moment prepared) (moment c.conclude.new.pool) p c.make.ensures.leaves c.conclude.ensures.called.leaves
