@@ -1,6 +1,7 @@
 -- At every moment of an opened pool its writers have staged, its store refuses for three reasons only, and a lock is in the way only where a seat holds it.
-use Rattle.std.proofs.Common.{◌≡◌, ◌↔◌, ℕ, ◌<◌, ◌≤◌, Bool, true, false, cond, not, ◌&&◌, eqb, ltb, List, length, ℤ, is_some, Some, None, Ok, Err, Option, Result, sym, refl, ap, ◌∙◌}
+use Rattle.std.proofs.Common.{◌≡◌, ◌↔◌, ℕ, ◌<◌, ◌≤◌, Bool, true, false, cond, not, ◌&&◌, ◌||◌, ◌^◌, eqb, ltb, List, length, ℤ, is_some, Some, None, Ok, Err, Option, Result, sym, refl, ap, ◌∙◌, arith}
 use Rattle.std.proofs.lemmas.Bool.{lt-ltb, le-leb, eqb-true, eq-eqb, and_parts}
+use Rattle.std.specs.Int.Bits.{and_zero_l}
 use Rattle.std.specs.List.{list_any}
 use Rattle.calls.specs.declared.fault.Fault.{Fault}
 use Rattle.calls.specs.declared.fault.Fault.TheVariants.{NoSuchSeat, LockInTheWay, Store}
@@ -21,7 +22,7 @@ use Rattle.store.specs.Steps.{unless_refused, is_author, within, stage_answer, s
 use Rattle.store.specs.Steps as T
 use Rattle.pool.specs.declared.table.Row.{Row}
 use Rattle.pool.specs.declared.table.Table.{Table}
-use Rattle.pool.specs.Masks.{has, with_seat}
+use Rattle.pool.specs.Masks.{has, has_other, with_seat}
 use Rattle.pool.specs.Tables.{Moment, place_at, row_at}
 use Rattle.pool.specs.Checks.{passed, stepped}
 use Rattle.pool.specs.Locks.{is_lock, by_writer, writes, holds, others_hold, with_lock, share, claim}
@@ -34,7 +35,8 @@ use Rattle.law.proofs.Views as V
 use Rattle.alone.specs.Runs.{Reached, named, answer_of, chains}
 use Rattle.alone.specs.Locked.{Locked, may_come, Writes, StagedBy}
 use Rattle.alone.proofs.Moments.{no, view, writes_as, passed_ok, next_write}
-use Rattle.alone.proofs.Sound.{IsSound, sound}
+use Rattle.alone.proofs.Seats.{other_found, other_there}
+use Rattle.alone.proofs.Sound.{IsRow, IsSound, sound}
 use Rattle.alone.proofs.Whole.{held}
 
 -- ------------------------------------------------------------ what is staged
@@ -193,6 +195,30 @@ share_met row p does k = go (is_lock row) k row.writer
         to true u = ((λ h. no (cc)), (λ o. absurd (o.2 (let a = writer_is (Some w) o.0 o.1 in let b = eqb-true w p u in cc))))
         to false u = ((λ h. (w, ap (λ (b : Bool). cond b true false) (eq-eqb w w refl), (λ e. no (let v = eq-eqb w p e in cc)))), (λ o. refl))
 
+or_first : (a b : Bool) → b ≡ false → (a || b) ≡ true → a ≡ true
+or_first true b e h = refl
+or_first false b e h = no (cc)
+
+-- another holder, and the test for one
+other_holder : (row : Row) (p : ℕ) → IsRow row → p < 16 → (others_hold row p ≡ true) ↔ ((q : ℕ) × (holds row q ≡ true) × (q ≡ p → ⊥))
+other_holder row p k l = go row.writer k.lock
+  where
+    go : (w : Option ℕ) → not (is_some w && not (eqb row.readers 0)) ≡ true
+        → (by_writer w p false true (has_other row.readers p) ≡ true) ↔ ((q : ℕ) × ((by_writer w q true false false || has row.readers q) ≡ true) × (q ≡ p → ⊥))
+    go None m = (other_found row.readers p k.few l, (λ o. other_there row.readers p o.0 k.few l o.1 o.2))
+    go (Some w) m = to (eqb w p) refl
+      where
+        none : (q : ℕ) → has row.readers q ≡ false
+        none q = ap (λ (x : ℕ). has x q) (eqb-true row.readers 0 (grind arith)) ∙ ap (λ (x : ℕ). not (eqb x 0)) (and_zero_l (2 ^ q))
+
+        to : (c : Bool) → eqb w p ≡ c
+            → (cond c false true ≡ true) ↔ ((q : ℕ) × ((by_writer (Some w) q true false false || has row.readers q) ≡ true) × (q ≡ p → ⊥))
+        to true u = (
+          (λ h. no (cc)),
+          (λ o. absurd (o.2 (let a = writer_is (Some w) o.0 (or_first _ _ (none o.0) o.1) in let b = eqb-true w p u in cc))),
+        )
+        to false u = ((λ h. (w, ap (λ (b : Bool). cond b true false || has row.readers w) (eq-eqb w w refl), (λ e. no (let v = eq-eqb w p e in cc)))), (λ o. refl))
+
 -- a write of a row that is a lock, by its other holders
 claim_met : (row : Row) (p : ℕ) (stages : T.Answer) (does : Row → Done (Unit {0})) → is_lock row ≡ true
     → (named (λ _. A.Done) (then (claim row p) (λ x. then (up stages) (λ _. Ok (does x)))) ≡ Err LockInTheWay) ↔ (others_hold row p ≡ true)
@@ -217,5 +243,8 @@ locked allows before seats {h} {s} few w r =
       written = λ e t. some_writer (row_at s.table e).writer (k.written e t);
       refusals = fair allows s k st;
       read_met = λ p e q c. rw c (share_met (row_at s.table e) p _ (k.rows e).lock);
-      write_met = λ p e z q c. rw c (claim_met (row_at s.table e) p _ _ (k.rows e).lock);
+      write_met = λ p e z q c.
+          let test : (answer_of allows s (C.Write p e z) ≡ Err LockInTheWay) ↔ (others_hold (row_at s.table e) p ≡ true) = rw c (claim_met (row_at s.table e) p _ _ (k.rows e).lock) in
+          let other = other_holder (row_at s.table e) p (k.rows e) (passed_ok s.table S.Write p (inside s e) q c).0 in
+          ((λ h. other.0 (test.0 h)), (λ o. test.1 (other.1 o)));
     }

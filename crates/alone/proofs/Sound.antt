@@ -27,13 +27,14 @@ use Rattle.law.proofs.Sames.{same_refl}
 use Rattle.alone.specs.Runs.{Reached, opened, called, after_call}
 use Rattle.alone.proofs.Moments.{no, Sized, passed_ok, next_prepare, next_decide, next_abort, next_finish, next_close}
 use Rattle.alone.proofs.Parts.{by_result, by_test, share_ok, claim_ok, stage_ok, spent_staged}
-use Rattle.alone.proofs.Seats.{turned}
+use Rattle.alone.proofs.Seats.{turned, added_few, removed_few}
 use Rattle.alone.proofs.Whole.{opens, replicate_at, withdrawn-reading, held}
 
--- a row: it is a lock, and its writer a seat below 16
+-- a row: it is a lock, and its writer and its readers are seats below 16
 pub record IsRow (r : Row) : Type 0 where
   pub lock : is_lock r ≡ true
   pub low : (w : ℕ) → r.writer ≡ Some w → w < 16
+  pub few : r.readers < 65536
 
 -- a place: its serial is 1 or more while an edit is under way, and never above 1,000,000
 pub record IsPlace (x : Place) : Type 0 where
@@ -57,11 +58,12 @@ set_each {A} P xs i j x d l a b =
 -- ------------------------------------------------------------ rows
 
 -- a lock with the same writer, and readers who are none where it has one
-same_writer : (r row : Row) → IsRow r → row.writer ≡ r.writer → (is_some r.writer ≡ true → r.readers ≡ 0 → row.readers ≡ 0) → IsRow row
-same_writer r row k e z =
+same_writer : (r row : Row) → IsRow r → row.writer ≡ r.writer → (is_some r.writer ≡ true → r.readers ≡ 0 → row.readers ≡ 0) → row.readers < 65536 → IsRow row
+same_writer r row k e z few =
     record {
       lock = go row.writer r.writer e k.lock z;
       low = λ w q. k.low w (sym e ∙ q);
+      few = few;
     }
   where
     go : (v w : Option ℕ) → v ≡ w → not (is_some w && not (eqb r.readers 0)) ≡ true → (is_some w ≡ true → r.readers ≡ 0 → row.readers ≡ 0)
@@ -70,19 +72,27 @@ same_writer r row k e z =
     go (Some v) (Some w) e h z = rw (z refl (eqb-true r.readers 0 (grind arith)))
     go (Some v) None e h z = no (cc)
 
-shared_row : (r row : Row) (p : ℕ) → IsRow r → share r p ≡ Ok row → IsRow row × (row.writer ≡ r.writer)
+shared_row : (r row : Row) (p : ℕ) → p < 16 → IsRow r → share r p ≡ Ok row → IsRow row × (row.writer ≡ r.writer)
 unfolding same
-shared_row r row p k h =
+shared_row r row p l k h =
     let m = share_ok r row p h in
     let e : row.writer ≡ r.writer = ap (λ (x : Row). x.writer) m.1 in
-    (same_writer r row k e (λ t z. ap (λ (x : Row). x.readers) m.1 ∙ go (V.writes r.writer p) (ap₂ (λ (a b : Bool). a && not b) (sym t) refl ∙ m.0) z), e)
+    let d : row.readers ≡ cond (V.writes r.writer p) r.readers (with_seat r.readers p) = ap (λ (x : Row). x.readers) m.1 in (
+      same_writer r row k e (λ t z. d ∙ go (V.writes r.writer p) (ap₂ (λ (a b : Bool). a && not b) (sym t) refl ∙ m.0) z)
+          (subst (λ (n : ℕ). n < 65536) (sym d) (some (V.writes r.writer p))),
+      e,
+    )
   where
     go : (b : Bool) → (true && not b) ≡ false → r.readers ≡ 0 → cond b r.readers (with_seat r.readers p) ≡ 0
     go true t z = z
     go false t z = no (cc)
 
+    some : (b : Bool) → cond b r.readers (with_seat r.readers p) < 65536
+    some true = k.few
+    some false = added_few r.readers p k.few l
+
 released_row : (r : Row) (p : ℕ) → IsRow r → IsRow (release r p)
-released_row r p k = record { lock = go (writes r p) r.writer k.lock; low = λ w q. k.low w (still (writes r p) r.writer w q) }
+released_row r p k = record { lock = go (writes r p) r.writer k.lock; low = λ w q. k.low w (still (writes r p) r.writer w q); few = removed_few r.readers p k.few }
   where
     go : (b : Bool) (w : Option ℕ) → not (is_some w && not (eqb r.readers 0)) ≡ true
         → not (is_some (cond b None w) && not (eqb (without_seat r.readers p) 0)) ≡ true
@@ -137,8 +147,9 @@ module _ (allows : Rule) (s : Moment) (z : Sized s) (k : IsSound s) where
   step (C.Read p e) =
       by_result s IsSound k (passed s.table S.Read p (inside s e)) _ (λ q c.
       by_result s IsSound k (share (row_at s.table e) p) _ (λ row d.
-      let m = shared_row (row_at s.table e) row p (k.rows e) d in
-      rerowed e row (passed_ok s.table S.Read p (inside s e) q c).1 m.0 m.1))
+      let l = passed_ok s.table S.Read p (inside s e) q c in
+      let m = shared_row (row_at s.table e) row p l.0 (k.rows e) d in
+      rerowed e row l.1 m.0 m.1))
   step (C.Write p e v) =
       by_result s IsSound k (passed s.table S.Write p (inside s e)) _ (λ q c.
       by_result s IsSound k (claim (row_at s.table e) p) _ (λ row d.
@@ -148,7 +159,7 @@ module _ (allows : Rule) (s : Moment) (z : Sized s) (k : IsSound s) where
       let n : stage_after s.store e (version_by s p v) ≡ with_staged s.store e (Some (version_by s p v)) = stage_ok s.store e (version_by s p v) g in
       let w : row.writer ≡ Some p = ap (λ (x : Row). x.writer) m.0 in
       rowed e row (stage_after s.store e (version_by s p v)) l.1
-      record { lock = rw m.0; low = λ x t. (let e : p ≡ x = cc in subst (λ (y : ℕ). y < 16) e l.0) }
+      record { lock = rw m.0; low = λ x t. (let e : p ≡ x = cc in subst (λ (y : ℕ). y < 16) e l.0); few = rw m.0 (omega arith) }
       (λ _. ap is_some w)
       (λ y a. ap (λ (x : Writing). x.staged y) n ∙ ap (λ (b : Bool). cond b (Some (version_by s p v)) (s.store.staged y)) (ne_eqb y e a)))))
   step (C.Prepare p) =
@@ -159,7 +170,7 @@ module _ (allows : Rule) (s : Moment) (z : Sized s) (k : IsSound s) where
       by_result s IsSound k (passed s.table S.Vote p (inside s e)) _ (λ q c.
       by_test s IsSound k (holds (row_at s.table e) p) _ _
       (λ _. by_test s IsSound k (has (row_at s.table e).voted p) _ _ (λ _. k)
-      (λ _. rerowed e _ (passed_ok s.table S.Vote p (inside s e) q c).1 (same_writer (row_at s.table e) _ (k.rows e) refl (λ _ t. t)) refl))
+      (λ _. rerowed e _ (passed_ok s.table S.Vote p (inside s e) q c).1 (same_writer (row_at s.table e) _ (k.rows e) refl (λ _ t. t) (k.rows e).few) refl))
       (λ _. k))
   step (C.Decide p) =
       by_result s IsSound k (passed s.table S.Decide p true) _ (λ q c.
@@ -228,7 +239,7 @@ module _ (allows : Rule) (before : Moment) (seats : ℕ) (few : before.store.rea
   start false q = no (cc)
   start true q =
       record {
-        rows = λ e. subst IsRow (sym (replicate_at unlocked 64 e)) (record { lock = refl; low = λ x t. no (cc) });
+        rows = λ e. subst IsRow (sym (replicate_at unlocked 64 e)) (record { lock = refl; low = λ x t. no (cc); few = omega arith });
         places = λ p. subst IsPlace (sym (replicate_at idle 16 p)) (record { least = λ t. no (cc); most = omega arith });
         written = λ e t. no (let u = withdrawn_none before.store before.store.reading.entries e (omega arith) (staged_out e) in cc);
       }

@@ -1,4 +1,5 @@
--- What is so at every moment of a pool that was opened and then called: rows are locks, writers have staged, and a store refuses for three reasons only.
+-- What is so at every moment of a pool that was opened and then called: its rows are locks, its writers have staged, its store refuses for
+-- three reasons only, and a lock is in the way only where another seat holds it.
 use Rattle.std.specs.Prelude.{◌≡◌, ◌↔◌, ℕ, Bool, true, false, List, ℤ, is_some, Some, Ok, Err}
 use Rattle.calls.specs.declared.fault.Fault.TheVariants.{LockInTheWay, Store}
 use Rattle.calls.specs.declared.call.Call.{Call}
@@ -9,7 +10,7 @@ use Rattle.store.specs.declared.refusal.Refusal.{Refusal}
 use Rattle.store.specs.declared.refusal.Refusal.TheVariants.{NoSuchEntry, ValueBeyondReach, ChainFull, SizeOrSetting, NothingStaged, NoSuchAuthor, NoImage, MemoryTooShort}
 use Rattle.store.specs.Meaning.{Readable, Writable}
 use Rattle.pool.specs.Tables.{Moment, row_at}
-use Rattle.pool.specs.Locks.{is_lock, writes, others_hold}
+use Rattle.pool.specs.Locks.{is_lock, writes, holds}
 use Rattle.pool.specs.Checks.{passed}
 use Rattle.pool.specs.Calls.{Rule, inside, version_by}
 use Rattle.law.specs.Histories.{Line}
@@ -26,6 +27,10 @@ Written s e = (p : ℕ) × Writes s p e
 -- some other seat writes the entry
 abbrev pub OtherWrites : Moment → ℕ → ℕ → Type 0
 OtherWrites s p e = (q : ℕ) × Writes s q e × (q ≡ p → ⊥)
+
+-- some other seat holds the entry, for writing or for reading
+abbrev pub OtherHolds : Moment → ℕ → ℕ → Type 0
+OtherHolds s p e = (q : ℕ) × (holds (row_at s.table e) q ≡ true) × (q ≡ p → ⊥)
 
 -- what is staged at the entry is some value, under the seat and its present serial
 abbrev pub StagedBy : Moment → ℕ → ℕ → Type 0
@@ -52,8 +57,7 @@ pub record Locked (allows : Rule) (s : Moment) : Type 0 where
   pub refusals : (c : Call) (r : Refusal) → answer_of allows s c ≡ Err (Store r) → may_come r ≡ true
   -- past its checks, a read is refused 5 exactly where another seat writes the entry, and a write where another holds it
   pub read_met : (p e : ℕ) (q : State) → passed s.table S.Read p (inside s e) ≡ Ok q → (answer_of allows s (Read p e) ≡ Err LockInTheWay) ↔ OtherWrites s p e
-  pub write_met : (p e : ℕ) (z : ℤ) (q : State) → passed s.table S.Write p (inside s e) ≡ Ok q
-      → (answer_of allows s (Write p e z) ≡ Err LockInTheWay) ↔ (others_hold (row_at s.table e) p ≡ true)
+  pub write_met : (p e : ℕ) (z : ℤ) (q : State) → passed s.table S.Write p (inside s e) ≡ Ok q → (answer_of allows s (Write p e z) ≡ Err LockInTheWay) ↔ OtherHolds s p e
 
 -- every pool over a store that keeps to its meaning, however it was called after opening
 abbrev pub AlwaysLocked : Type 0

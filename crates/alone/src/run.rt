@@ -94,7 +94,8 @@ pub fn always_alone()
     ensures { AlwaysAlone }
 {}
 
-// Nothing is out of order in such a pool: its rows are locks, its writers have staged, and its store refuses for three reasons only.
+// Nothing is ever out of order in such a pool: its rows are locks, its writers have staged, its store refuses for three reasons only,
+// and a lock is in the way only where another seat holds it.
 pub fn always_locked()
     ensures { AlwaysLocked }
 {}
