@@ -3,3 +3,5 @@ pub mod Moments
 pub mod Parts
 pub mod Ties
 pub mod Whole
+pub mod Sound
+pub mod Locked

@@ -1,7 +1,8 @@
--- What the parts of a call that were accepted say: a lock shared or claimed, a version staged, published or withdrawn, a row not found.
-use Rattle.std.proofs.Common.{◌≡◌, ℕ, zero, suc, ◌<◌, Bool, true, false, cond, not, ◌&&◌, ◌||◌, eqb, ltb, ◌⊎◌, List, [], ◌∷◌, ◌++◌, get_or, is_some, Some, None, Ok, Err, Option, sym, refl, ap, ◌∙◌, ap₂, inl, inr, arith}
+-- A call by its parts, and what the accepted ones say: a lock shared or claimed, a version staged, published or withdrawn, a row not found.
+use Rattle.std.proofs.Common.{◌≡◌, ℕ, zero, suc, ◌<◌, Bool, true, false, cond, not, ◌&&◌, ◌||◌, eqb, ltb, ◌⊎◌, List, [], ◌∷◌, ◌++◌, get_or, is_some, Some, None, Ok, Err, Option, Result, sym, refl, ap, ◌∙◌, ap₂, inl, inr, arith}
 use Rattle.std.proofs.lemmas.Bool.{eqb-true, and_parts}
 use Rattle.std.specs.List.{list_any}
+use Rattle.calls.specs.declared.fault.Fault.{Fault}
 use Rattle.calls.specs.declared.fault.Fault.TheVariants.{LockInTheWay}
 use Rattle.calls.specs.declared.state.State.{State}
 use Rattle.calls.specs.declared.state.State.TheVariants.{Idle, Editing, Voting, Commit, Abort}
@@ -10,14 +11,26 @@ use Rattle.store.specs.declared.refusal.Refusal.TheVariants.{NoSuchEntry}
 use Rattle.store.specs.Meaning.{Writing, last}
 use Rattle.store.specs.Steps.{Answer, unless_refused, stage_answer, stage_after, with_staged, spend_answer, found, with_published, publish_after, withdraw_after}
 use Rattle.pool.specs.declared.table.Row.{Row}
+use Rattle.pool.specs.Tables.{Moment}
 use Rattle.pool.specs.Masks.{has, with_seat, has_other}
 use Rattle.pool.specs.Locks.{is_lock, by_writer, with_lock, share, claim, others_hold}
-use Rattle.pool.specs.Calls.{or_else, up, spent}
+use Rattle.pool.specs.Calls.{Done, then, after, or_else, up, spent}
 use Rattle.law.specs.Histories.{same}
 use Rattle.law.proofs.Sames.{same_tells}
 use Rattle.law.proofs.Views.{writes, list, staged_or, is_ruled, is_committed}
 use Rattle.alone.proofs.Seats.{turned, seat_alone}
 use Rattle.alone.proofs.Moments.{no}
+
+-- ------------------------------------------------------------ what a call leaves, by its parts
+
+module _ (s : Moment) (P : Moment → Type 0) (stays : P s) where
+  pub by_result : {A T : Type 0} (r : Result A Fault) (go : A → Result (Done T) Fault) → ((a : A) → r ≡ Ok a → P (after (go a) s)) → P (after (then r go) s)
+  by_result (Ok a) go k = k a refl
+  by_result (Err x) go k = stays
+
+  pub by_test : {T : Type 0} (b : Bool) (x y : Result (Done T) Fault) → (b ≡ true → P (after x s)) → (b ≡ false → P (after y s)) → P (after (cond b x y) s)
+  by_test true x y k m = k refl
+  by_test false x y k m = m refl
 
 -- ------------------------------------------------------------ locks
 

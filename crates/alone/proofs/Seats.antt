@@ -1,8 +1,10 @@
 -- Masks of sixteen seats, read seat by seat.
-use Rattle.std.proofs.Common.{◌≡◌, ℕ, zero, suc, ◌+◌, ◌-◌, ◌*◌, ◌/◌, ◌%◌, ◌^◌, ◌<◌, Bool, true, false, cond, not, ◌&&◌, eqb, sym, refl, ap, ◌∙◌, ap₂, ⊎_elim, arith}
+use Rattle.std.proofs.Common.{◌≡◌, ℕ, zero, suc, ◌+◌, ◌-◌, ◌*◌, ◌/◌, ◌%◌, ◌^◌, ◌<◌, Bool, true, false, cond, not, ◌&&◌, eqb, sym, refl, ap, ◌∙◌, ap₂, ⊎_elim, ◌⊎◌, inl, inr, arith}
 use lib.Bits.{bit_and, bit_or, and_high}
-use Rattle.std.proofs.lemmas.Nat.{pow_pos, pow-add, and_shr, or_shr, and_mod, or_mod, mod_below}
-use Rattle.std.proofs.lemmas.Bool.{cases_eq, eq-eqb, ne_eqb, eqb-true, and_parts, cond-false, true≢false}
+use Rattle.std.proofs.lemmas.Nat.{pow_pos, pow-add, or_lt, and_le_l, and_shr, or_shr, and_mod, or_mod, mod_below}
+use Rattle.std.proofs.Math.Pow.{pow-lt}
+use Rattle.std.proofs.lemmas.Nat.Bits.{same_from_bits_below, bit_at_above}
+use Rattle.std.proofs.lemmas.Bool.{cases_eq, cases_lt, eq-eqb, ne_eqb, eqb-true, and_parts, cond-false, true≢false}
 use Rattle.pool.specs.Masks.{has, with_seat, without_seat, has_other}
 use Rattle.law.specs.Histories.{same}
 
@@ -117,3 +119,61 @@ seat_alone m p q a b none apart =
   where
     not_from_false' : (t : Bool) → not t ≡ false → t ≡ true
     not_from_false' t h = grind arith
+
+-- ------------------------------------------------------------ a seat other than p
+
+found_below : (f : ℕ → Bool) (n : ℕ) → ((q : ℕ) × (f q ≡ true)) ⊎ ((q : ℕ) → q < n → f q ≡ false)
+found_below f zero = inr (λ q l. absurd (omega arith))
+found_below f (suc n) = go (f n) refl (found_below f n)
+  where
+    go : (b : Bool) → f n ≡ b → ((q : ℕ) × (f q ≡ true)) ⊎ ((q : ℕ) → q < n → f q ≡ false) → ((q : ℕ) × (f q ≡ true)) ⊎ ((q : ℕ) → q < suc n → f q ≡ false)
+    go true e below = inl (n, e)
+    go false e below = ⊎_elim inl (λ k. inr (λ q l. ⊎_elim (λ same. ap f same ∙ e) (λ a. k q (omega (arith, a))) (cases_eq q n))) below
+
+same_digit : (x y : ℕ) → x < 2 → y < 2 → eqb x 1 ≡ eqb y 1 → x ≡ y
+same_digit zero zero a b e = refl
+same_digit zero (suc zero) a b e = absurd (true≢false (sym e))
+same_digit (suc zero) zero a b e = absurd (true≢false e)
+same_digit (suc zero) (suc zero) a b e = refl
+same_digit (suc (suc x)) y a b e = absurd (omega arith)
+same_digit zero (suc (suc y)) a b e = absurd (omega arith)
+same_digit (suc zero) (suc (suc y)) a b e = absurd (omega arith)
+
+-- a mask of sixteen seats has one other than p exactly where it tests so
+pub other_found : (m p : ℕ) → m < 65536 → p < 16 → has_other m p ≡ true → (q : ℕ) × (has m q ≡ true) × (q ≡ p → ⊥)
+other_found m p few l h = ⊎_elim found (λ none. absurd (true≢false (sym h ∙ ap not (eq-eqb _ _ (all none))))) (found_below (λ q. has m q && not (eqb q p)) 16)
+  where
+    found : (q : ℕ) × ((has m q && not (eqb q p)) ≡ true) → (q : ℕ) × (has m q ≡ true) × (q ≡ p → ⊥)
+    found x =
+        let k = and_parts (has m x.0) (not (eqb x.0 p)) x.1 in
+        (x.0, k.0, (λ e. true≢false (sym k.1 ∙ ap not (eq-eqb x.0 p e))))
+
+    bit : ((q : ℕ) → q < 16 → (has m q && not (eqb q p)) ≡ false) → (q : ℕ) → q < 16 → has (bit_or m (2 ^ p)) q ≡ has (2 ^ p) q
+    bit none q b = bit_set m p q l b ∙ go (eqb q p) (has m q) (none q b) ∙ sym (bit_is (2 ^ p) q ∙ ap (λ x. eqb x 1) (power_digit p q l b) ∙ one_is (eqb q p))
+      where
+        go : (e x : Bool) → (x && not e) ≡ false → cond e true x ≡ e
+        go true x n = refl
+        go false true n = n
+        go false false n = refl
+
+    all : ((q : ℕ) → q < 16 → (has m q && not (eqb q p)) ≡ false) → bit_or m (2 ^ p) ≡ 2 ^ p
+    all none =
+        same_from_bits_below 16 _ _ (or_lt 16 m (2 ^ p) few (pow-lt l)) (pow-lt l)
+        (λ q b. same_digit _ _ (small (bit_or m (2 ^ p)) q) (small (2 ^ p) q) (sym (bit_is (bit_or m (2 ^ p)) q) ∙ bit none q b ∙ bit_is (2 ^ p) q))
+
+pub seat_low : (m q : ℕ) → m < 65536 → has m q ≡ true → q < 16
+seat_low m q few h = ⊎_elim (λ l. l) (λ l. absurd (true≢false (sym h ∙ bit_is m q ∙ ap (λ x. eqb x 1) (bit_at_above m 16 q few l)))) (cases_lt q 16)
+
+pub other_there : (m p q : ℕ) → m < 65536 → p < 16 → has m q ≡ true → (q ≡ p → ⊥) → has_other m p ≡ true
+other_there m p q few l h a = go (has_other m p) refl
+  where
+    go : (b : Bool) → has_other m p ≡ b → b ≡ true
+    go true e = refl
+    go false e = absurd (true≢false (sym h ∙ seat_alone m p q l (seat_low m q few h) e (sym (turned p q) ∙ ne_eqb q p a)))
+
+-- masks stay masks of sixteen seats
+pub added_few : (m p : ℕ) → m < 65536 → p < 16 → with_seat m p < 65536
+added_few m p few l = or_lt 16 m (2 ^ p) few (pow-lt l)
+
+pub removed_few : (m p : ℕ) → m < 65536 → without_seat m p < 65536
+removed_few m p few = omega (arith, and_le_l m (65535 - 2 ^ p))

@@ -37,19 +37,19 @@ withdraw_reading m e = go (spend_answer m e)
     go (Ok x) = refl
     go (Err x) = refl
 
-withdrawn-reading : (m : Writing) (n : ℕ) → (withdrawn m n).reading ≡ m.reading
+pub withdrawn-reading : (m : Writing) (n : ℕ) → (withdrawn m n).reading ≡ m.reading
 withdrawn-reading m zero = refl
 withdrawn-reading m (suc n) = withdraw_reading (withdrawn m n) n ∙ withdrawn-reading m n
+
+-- what opening does where it is accepted, and where it is not
+abbrev pub opens : Moment → ℕ → Bool → Result (Done (Unit {0})) Fault
+opens s seats b = cond b (Ok (done tt (moment (withdrawn s.store s.store.reading.entries) (fresh seats)))) (Err CannotOpen)
 
 module _ (allows : Rule) (before : Moment) (seats : ℕ) (few : before.store.reading.entries ≤ 64) where
   abbrev pub Held : List Line → Moment → Type 0
   Held h s = Inv allows (chains before) (view s) h × Sized s
 
-  -- what opening does where it is accepted, and where it is not
-  abbrev opens : Bool → Result (Done (Unit {0})) Fault
-  opens b = cond b (Ok (done tt (moment (withdrawn before.store before.store.reading.entries) (fresh seats)))) (Err CannotOpen)
-
-  start : (b : Bool) → answer (opens b) ≡ Ok tt → Held [] (after (opens b) before)
+  start : (b : Bool) → answer (opens before seats b) ≡ Ok tt → Held [] (after (opens before seats b) before)
   start false q = no (cc)
   start true q =
       let r : (withdrawn before.store before.store.reading.entries).reading ≡ before.store.reading = withdrawn-reading before.store before.store.reading.entries in (

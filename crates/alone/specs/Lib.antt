@@ -1,2 +1,3 @@
 pub mod Runs
 pub mod Stops
+pub mod Locked

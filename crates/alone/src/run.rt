@@ -3,6 +3,7 @@ ghost use Rattle.pool.specs.Pools.{at};
 ghost use Rattle.law.specs.Histories.{history};
 ghost use Rattle.law.specs.Promise.{AsIfAlone};
 ghost use Rattle.alone.specs.Runs.{Ran, GoesOn, AlwaysAlone, chains, holders};
+ghost use Rattle.alone.specs.Locked.{AlwaysLocked};
 ghost use Rattle.alone.specs.Stops.{Stopped, stop_text};
 ghost use Rattle.alone.specs.declared.run.Stop.TheVariants.{Refused, NoMemory};
 
@@ -92,4 +93,10 @@ pub fn run<S: WritingStore, R: HouseRule>(
 // The same promise for whoever makes the calls of an opened pool one by one.
 pub fn always_alone()
     ensures { AlwaysAlone }
+{}
+
+// Nothing is ever out of order in such a pool: its rows are locks, its writers have staged, its store refuses for three reasons only,
+// and a lock is in the way only where another seat holds it.
+pub fn always_locked()
+    ensures { AlwaysLocked }
 {}

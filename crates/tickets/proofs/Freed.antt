@@ -1,11 +1,10 @@
 -- On a pool that was opened and called, no call of a ticket is refused, and its seat is free afterwards.
-use Rattle.std.proofs.Common.{◌≡◌, ℕ, zero, suc, ◌<◌, ◌≤◌, Bool, true, false, cond, not, ◌&&◌, eqb, ltb, leb, List, [], ◌∷◌, length, get_or, set, ℤ, is_some, Some, None, Ok, Err, Option, Result, sym, refl, ap, ◌∙◌, subst, ⊎_elim, arith, get_or-set_other, get_or-set_same}
+use Rattle.std.proofs.Common.{◌≡◌, ℕ, zero, suc, ◌<◌, ◌≤◌, Bool, true, false, cond, not, ◌&&◌, eqb, ltb, leb, List, [], ◌∷◌, length, get_or, set, Some, None, Ok, Err, Option, Result, sym, refl, ap, ◌∙◌, subst, ap₂, ⊎_elim, arith, get_or-set_other, get_or-set_same}
 use Rattle.std.proofs.lemmas.Bool.{and_parts, ltb-true, lt-ltb, not-true, cases_eq, cases_lt, or_from, and_right}
 use Rattle.std.specs.List.{list_any}
 use Rattle.calls.specs.declared.call.Call.{Call}
 use Rattle.calls.specs.declared.call.Call.TheVariants as C
 use Rattle.calls.specs.declared.fault.Fault.{Fault}
-use Rattle.calls.specs.declared.fault.Fault.TheVariants.{CannotOpen}
 use Rattle.calls.specs.declared.state.State.{State}
 use Rattle.calls.specs.declared.state.State.TheVariants.{Idle, Editing, Voting, Commit, Abort}
 use Rattle.calls.specs.declared.state.Step.{Step}
@@ -21,22 +20,21 @@ use Rattle.pool.specs.declared.table.Table.{Table}
 use Rattle.pool.specs.Masks.{has}
 use Rattle.pool.specs.Locks.{holds, writes, by_writer, release, with_vote, share, claim}
 use Rattle.pool.specs.Checks.{passed, has_seat}
-use Rattle.pool.specs.Scans.{voted_no, is_holder, lacks_vote, withdrawn}
-use Rattle.pool.specs.Tables.{Moment, moment, fresh, place_at, row_at, idle, unlocked, with_state}
-use Rattle.pool.specs.Calls.{Rule, Done, done, then, answer, after, inside, up, version_by, says}
+use Rattle.pool.specs.Scans.{voted_no, is_holder, lacks_vote}
+use Rattle.pool.specs.Tables.{Moment, place_at, row_at, idle, unlocked, with_state}
+use Rattle.pool.specs.Calls.{Rule, Done, then, answer, after, inside, up, version_by, says}
 use Rattle.law.specs.Histories.{Line}
-use Rattle.law.specs.OneByOne.{by}
 use Rattle.law.proofs.Sames.{same_refl}
-use Rattle.law.proofs.Views.{is_ruled, list}
-use Rattle.law.proofs.Views as V
-use Rattle.alone.specs.Runs.{Reached, opened, called, after_call}
-use Rattle.alone.proofs.Moments.{no, Sized, passed_ok, next_finish, writes_as}
-use Rattle.alone.proofs.Parts.{stage_ok, spent_entries}
+use Rattle.law.proofs.Views.{is_ruled}
+use Rattle.alone.specs.Runs.{Reached, opened, called, after_call, chains}
+use Rattle.alone.proofs.Moments.{no, Sized, passed_ok, next_finish}
+use Rattle.alone.proofs.Parts.{by_result, by_test, stage_ok, spent_entries}
 use Rattle.alone.proofs.Seats.{seat_added, seat_removed}
-use Rattle.alone.proofs.Whole.{replicate_at, held}
+use Rattle.alone.proofs.Whole.{opens, replicate_at, held}
+use Rattle.alone.proofs.Locked.{staged_by}
 use Rattle.tickets.specs.Lists.{after_calls, each}
 use Rattle.tickets.specs.Tickets.{votes, finishes, wind_up, conclude, settling, giving_up, Free}
-use Rattle.tickets.proofs.Made.{RowAs, Beside, after-++, by_result, by_test, prepare_beside, abort_beside, decide_beside, vote_elsewhere, finish_elsewhere, wind_up_beside, wind_up_holding, votes_holding, conclude_beside}
+use Rattle.tickets.proofs.Made.{RowAs, Beside, after-++, prepare_beside, abort_beside, decide_beside, vote_elsewhere, finish_elsewhere, wind_up_beside, wind_up_holding, votes_holding, conclude_beside}
 
 -- ------------------------------------------------------------ rows past the last entry
 
@@ -94,9 +92,6 @@ call_past allows s (C.Close p) =
 abbrev UnusedPast : Moment → Type 0
 UnusedPast s = (k : ℕ) → s.store.reading.entries ≤ k → row_at s.table k ≡ unlocked
 
-abbrev opens : Moment → ℕ → Bool → Result (Done (Unit {0})) Fault
-opens s seats b = cond b (Ok (done tt (moment (withdrawn s.store s.store.reading.entries) (fresh seats)))) (Err CannotOpen)
-
 unused_past : (allows : Rule) (before : Moment) (seats : ℕ) {h : List Line} {s : Moment} → Reached allows before seats h s → UnusedPast s
 unused_past allows before seats (opened q) = go (leb 1 seats && leb seats 16 && ltb 0 before.store.reading.entries && eqb before.table.seats 0) q
   where
@@ -147,12 +142,6 @@ voted_done : (r : Row) (p : ℕ) (b : Bool) → p < 16 → lacks_vote p (with_vo
 voted_done r p b l =
     and_right (holds r p) (not (has (with_vote r p b).voted p))
     (ap not (seat_added r.voted p p l l ∙ ap (λ (t : Bool). cond t true (has r.voted p)) (same_refl p)))
-
--- what an edit wrote is staged
-staged_there : (st : Option Version) (ow : Option ℤ) (p n : ℕ) → is_some ow ≡ true → list st ≡ by (record { seat = p; serial = n }) ow → found st ≡ Ok tt
-staged_there (Some x) ow p n t e = refl
-staged_there None (Some z) p n t e = no (cc)
-staged_there None None p n t e = no (cc)
 
 finish_next : (x : State) → is_ruled x ≡ true → next S.Finish x ≡ Some x
 finish_next x h = grind arith
@@ -247,11 +236,8 @@ module _ (allows : Rule) (before : Moment) (seats : ℕ) (few : before.store.rea
 
     spend_accepted : (m : Moment) (k : ℕ) → k < s.store.reading.entries → Going s m → writes (row_at m.table k) p ≡ true → up (spend_answer m.store k) ≡ Ok tt
     spend_accepted m k l g w =
-        let cell = (held allows before seats few g.0.1).0.cells p k low in
-        let v : V.writes (row_at m.table k).writer p ≡ true = sym (writes_as (row_at m.table k).writer p) ∙ w in
-        let wrote = sym cell.wrote ∙ v in
-        ap up (ap (λ (b : Bool). cond b (found (m.store.staged k)) (Err NoSuchEntry)) (inside_kept m k l g)
-        ∙ staged_there (m.store.staged k) _ p _ (and_parts _ _ (and_parts _ _ wrote).0).1 (cell.staging v))
+        ap up (ap₂ (λ (b : Bool) (o : Option Version). cond b (found o) (Err NoSuchEntry)) (inside_kept m k l g)
+        (staged_by allows (chains before) m g.0.0 (held allows before seats few g.0.1).0 p k low w).1)
 
     finish_accepted : is_ruled (place_at s.table p).state ≡ true → (m : Moment) (k : ℕ) → k < s.store.reading.entries → Going s m → is_holder p (row_at m.table k) ≡ true
         → Left m k (is_holder p) (after_call allows m (C.Finish p k))

@@ -1,9 +1,8 @@
 -- Lists of calls made one after another, and what a call leaves of the other entries.
-use Rattle.std.proofs.Common.{◌≡◌, ℕ, zero, suc, ◌+◌, ◌≤◌, Bool, true, false, cond, List, [], ◌∷◌, ◌++◌, get_or, set, Ok, Err, Result, sym, refl, ap, ◌∙◌, subst, ap₂, add-one, arith, get_or-set_other}
+use Rattle.std.proofs.Common.{◌≡◌, ℕ, zero, suc, ◌+◌, ◌≤◌, Bool, true, false, cond, List, [], ◌∷◌, ◌++◌, get_or, set, sym, refl, ap, ◌∙◌, subst, ap₂, add-one, arith, get_or-set_other}
 use Rattle.std.specs.List.{list_any}
 use Rattle.calls.specs.declared.call.Call.{Call}
 use Rattle.calls.specs.declared.call.Call.TheVariants as C
-use Rattle.calls.specs.declared.fault.Fault.{Fault}
 use Rattle.calls.specs.declared.state.Step.TheVariants as S
 use Rattle.store.specs.Meaning.{Writing}
 use Rattle.pool.specs.declared.table.Row.{Row}
@@ -12,9 +11,10 @@ use Rattle.pool.specs.Locks.{holds, writes}
 use Rattle.pool.specs.Checks.{passed}
 use Rattle.pool.specs.Scans.{voted_no, is_holder, lacks_vote}
 use Rattle.pool.specs.Tables.{Moment, row_at, unlocked}
-use Rattle.pool.specs.Calls.{Rule, Done, then, after, inside, up}
+use Rattle.pool.specs.Calls.{Rule, inside, up}
 use Rattle.store.specs.Steps.{spend_answer}
 use Rattle.alone.specs.Runs.{GoesOn, called, after_call}
+use Rattle.alone.proofs.Parts.{by_result, by_test}
 use Rattle.tickets.specs.Lists.{after_calls, answers_of, each}
 use Rattle.tickets.specs.Tickets.{votes, wind_up, conclude, decided_after}
 
@@ -56,16 +56,7 @@ each_keeps allows Q s test call step start (suc n) =
     go true before = step _ n before
     go false before = before
 
--- ------------------------------------------------------------ what a call leaves, by its parts
-
-module _ (s : Moment) (P : Moment → Type 0) (stays : P s) where
-  pub by_result : {A T : Type 0} (r : Result A Fault) (go : A → Result (Done T) Fault) → ((a : A) → r ≡ Ok a → P (after (go a) s)) → P (after (then r go) s)
-  by_result (Ok a) go k = k a refl
-  by_result (Err x) go k = stays
-
-  pub by_test : {T : Type 0} (b : Bool) (x y : Result (Done T) Fault) → (b ≡ true → P (after x s)) → (b ≡ false → P (after y s)) → P (after (cond b x y) s)
-  by_test true x y k m = k refl
-  by_test false x y k m = m refl
+-- ------------------------------------------------------------ what a call leaves of the other entries
 
 -- the row of one entry is as it was
 abbrev pub RowAs : Moment → ℕ → Moment → Type 0
