@@ -22,13 +22,25 @@ Allowed allows opened h (d ∷ ds) e =
     ((v : Version) → adds h d e ≡ v ∷ [] → allows e (last (chain opened h ds e)).value v.value ≡ true)
     × Allowed allows opened h ds e
 
+-- (a) every accepted read answered as when the decided edits run one by one; of an undecided edit, as if it came after them
+abbrev pub ReadsAsInRun : Chains → List Line → Type 0
+ReadsAsInRun opened h = Reads opened (told h) h
+
+-- (b) each chain of the store, with what is committed and not yet finished, is the chain of that run, authors included
+abbrev pub ChainsAsInRun : Chains → Chains → List Line → Type 0
+ChainsAsInRun opened stored h = (e : ℕ) → stored e ++ unfinished (told h) (decided (told h)) e ≡ chain opened (told h) (decided (told h)) e
+
+-- (b) and the house rule allows each added value after what stands just before it
+abbrev pub RuleIsKept : Rule → Chains → List Line → Type 0
+RuleIsKept allows opened h = (e : ℕ) → Allowed allows opened (told h) (decided (told h)) e
+
+-- (c) locks granted are locks released and the seats that hold the entry now
+abbrev pub LocksAddUp : (ℕ → ℕ → Bool) → List Line → Type 0
+LocksAddUp holds h = (e : ℕ) → granted e (told h) ≡ released e (told h) + count (holds e) 16
+
 -- the history h began with the chains `opened` and left the chains `stored`, and the seats that hold an entry now
 pub record AsIfAlone (allows : Rule) (opened stored : Chains) (holds : ℕ → ℕ → Bool) (h : List Line) : Type 0 where
-  -- (a) every accepted read answered as when the decided edits run one by one; of an undecided edit, as if it came after them
-  pub reads : Reads opened (told h) h
-  -- (b) each chain of the store, with what is committed and not yet finished, is the chain of that run, authors included
-  pub chains : (e : ℕ) → stored e ++ unfinished (told h) (decided (told h)) e ≡ chain opened (told h) (decided (told h)) e
-  -- and the house rule allows each added value after what stands just before it
-  pub allowed : (e : ℕ) → Allowed allows opened (told h) (decided (told h)) e
-  -- (c) locks granted are locks released and the seats that hold the entry now
-  pub locks : (e : ℕ) → granted e (told h) ≡ released e (told h) + count (holds e) 16
+  pub reads : ReadsAsInRun opened h
+  pub chains : ChainsAsInRun opened stored h
+  pub allowed : RuleIsKept allows opened h
+  pub locks : LocksAddUp holds h

@@ -1,5 +1,5 @@
 -- Pools that break the promise, each by one part of it, on a history of eleven calls.
-use Rattle.std.specs.Prelude.{ℕ, Bool, true, false, cond, List, [], ◌∷◌, ℤ, pos, negsuc, Ok, Err, nat_lt}
+use Rattle.std.specs.Prelude.{true, false, cond, List, [], ◌∷◌, ℤ, pos, negsuc, Ok, Err, nat_lt}
 use Rattle.calls.specs.declared.call.Call.{Call}
 use Rattle.calls.specs.declared.call.Call.TheVariants.{Begin, Read, Write, Prepare, Vote, Decide, Finish, Close}
 use Rattle.calls.specs.declared.answer.Reply.TheVariants.{Serial, Value, Voted, Decided, Done}
@@ -9,7 +9,7 @@ use Rattle.calls.specs.declared.fault.Fault.TheVariants.{LockInTheWay}
 use Rattle.store.specs.Meaning.{opening}
 use Rattle.law.specs.Histories.{Line, history}
 use Rattle.law.specs.OneByOne.{Chains}
-use Rattle.law.specs.Promise.{Rule, AsIfAlone}
+use Rattle.law.specs.Promise.{ReadsAsInRun, ChainsAsInRun, RuleIsKept, LocksAddUp}
 
 -- two entries, each with the opening version alone
 abbrev pub opened : Chains
@@ -31,13 +31,14 @@ told_right = history [] calls (answers (negsuc 2999999))
 abbrev pub told_wrong : List Line
 told_wrong = history [] calls (answers (pos 0))
 
+-- Each of these pools fails the part of the promise that its line names, and so the promise: `AsIfAlone` has every part.
 pub record WrongPoolsFail : Type 0 where
-  -- by (a): one that answers the opening value for ever
-  pub stale : (allows : Rule) (stored : Chains) (holds : ℕ → ℕ → Bool) → AsIfAlone allows opened stored holds told_wrong → ⊥
-  -- by (b): one that never uses its store, or whose finish only releases
-  pub unstored : (allows : Rule) (holds : ℕ → ℕ → Bool) → AsIfAlone allows opened opened holds told_right → ⊥
-  -- by (b): one that commits what the house rule does not allow
-  pub unruled : (stored : Chains) (holds : ℕ → ℕ → Bool) → AsIfAlone (λ _ _ _. false) opened stored holds told_right → ⊥
-  -- by (c): one whose locks are gone, or held by every seat, while one seat still reads
-  pub unlocked : (allows : Rule) (stored : Chains) → AsIfAlone allows opened stored (λ _ _. false) told_right → ⊥
-  pub overlocked : (allows : Rule) (stored : Chains) → AsIfAlone allows opened stored (λ _ _. true) told_right → ⊥
+  -- (a): one that answers the opening value for ever
+  pub stale : ¬ ReadsAsInRun opened told_wrong
+  -- (b): one that never uses its store, or whose finish only releases
+  pub unstored : ¬ ChainsAsInRun opened opened told_right
+  -- (b): one that commits what the house rule does not allow
+  pub unruled : ¬ RuleIsKept (λ _ _ _. false) opened told_right
+  -- (c): one whose locks are gone, or held by every seat, while one seat still reads
+  pub unlocked : ¬ LocksAddUp (λ _ _. false) told_right
+  pub overlocked : ¬ LocksAddUp (λ _ _. true) told_right

@@ -1,6 +1,8 @@
-ghost use Rattle.rules.specs.Range.{SetsLimits};
+ghost use Rattle.std.specs.Prelude.{◌≡◌, ℕ, ℤ};
+ghost use Rattle.rules.specs.Range.{SetsLimits, range_allows};
 
 use crate::entry_rule::EntryRule;
+use crate::house::HouseRule;
 use crate::limits::Limits;
 use store::refusal::Refusal;
 
@@ -15,3 +17,8 @@ impl EntryRule<Limits> {
         self.set_entry(entry, Limits { smallest, largest })
     }
 }
+
+// What a rule by limits means: yes to a new value between the limits of one of the 64 entries, and to no other.
+pub fn range_is_kept(rule: &RangeRule)
+    ensures { (entry : ℕ) (last new : ℤ) → ⟦<RangeRule as HouseRule>⟧.allowed rule.now entry last new ≡ range_allows rule.now.settings entry new }
+{}

@@ -1,8 +1,9 @@
-ghost use Rattle.std.specs.Prelude.{refl};
+ghost use Rattle.std.specs.Prelude.{◌≡◌, ℕ, ℤ, refl};
 ghost use Rattle.std.proofs.Common.{rules};
-ghost use Rattle.rules.specs.Step.{longest_step, step_stands, step_permits, step_of, SetsStep};
+ghost use Rattle.rules.specs.Step.{longest_step, step_stands, step_permits, step_of, step_allows, SetsStep};
 
 use crate::entry_rule::EntryRule;
+use crate::house::HouseRule;
 use crate::setting::Setting;
 use store::refusal::Refusal;
 
@@ -46,3 +47,8 @@ impl EntryRule<Step> {
         self.set_entry(entry, Step(step))
     }
 }
+
+// What a rule by steps means: yes to a new value that differs from the last by at most the step of one of the 64 entries, and to no other.
+pub fn step_is_kept(rule: &StepRule)
+    ensures { (entry : ℕ) (last new : ℤ) → ⟦<StepRule as HouseRule>⟧.allowed rule.now entry last new ≡ step_allows rule.now.settings entry last new }
+{}

@@ -1,6 +1,6 @@
 -- A table store entry by entry: where its versions stand, how long a chain is, and that what is staged has room; and the two laws.
 -- All here is proved, and no contract rests on its wording: an implementation can name a lemma of specs/ alone.
-use Rattle.std.specs.Prelude.{◌≡◌, ℕ, ◌+◌, ◌*◌, ◌<◌, ◌≤◌, true, [], length, take, drop, is_some, Some, None, slice_index_or}
+use Rattle.std.specs.Prelude.{◌≡◌, ℕ, ◌+◌, ◌*◌, ◌<◌, ◌≤◌, true, [], length, is_some, Some, None, slice_index_or}
 use Rattle.std.proofs.Common.{ap, ◌∙◌, arith, add-zero}
 use Rattle.std.specs.List.{slice_get}
 use Rattle.std.proofs.lemmas.Grind.{common_steps, rows}
@@ -25,10 +25,6 @@ beside_past t e past = cond-false _ _ _ (le-ltb e t.entries past)
 module _ (s : TableStore) where
   abbrev t : Table
   t = table_of s
-
-  -- the chain of an entry lies in its own cells
-  pub chain_is : (e : ℕ) → e < s.entries → chain t e ≡ take (len t e) (drop (e * s.depth) (memory s))
-  chain_is e inside = grind (arith, common_steps)
 
   -- the cells of a chain are within the memory
   chain_ends : (e : ℕ) → e < s.entries → e * s.depth + len t e ≤ length (memory s)

@@ -9,13 +9,13 @@ pub returns : goal.returns
 unfolding same
 returns c =
     record {
-      stale = λ allows stored holds a.
-          let q : ◌≡◌ {A = Answer} (Ok (Value (pos 0))) (Ok (Value (negsuc 2999999))) = a.reads.1.0 1 1 refl refl in
+      stale = λ reads.
+          let q : ◌≡◌ {A = Answer} (Ok (Value (pos 0))) (Ok (Value (negsuc 2999999))) = reads.1.0 1 1 refl refl in
           let z : ◌≡◌ {A = ℕ} 0 1 = cc in omega arith;
-      unstored = λ allows holds a. let q : ◌≡◌ {A = ℕ} 1 2 = ap (λ (l : List Version). length l) (a.chains 1) in omega arith;
-      unruled = λ stored holds a.
-          let q : false ≡ true = (a.allowed 1).0 (record { value = negsuc 2999999; seat = 0; serial = 1 }) refl in
+      unstored = λ chains. let q : ◌≡◌ {A = ℕ} 1 2 = ap (λ (l : List Version). length l) (chains 1) in omega arith;
+      unruled = λ kept.
+          let q : false ≡ true = (kept 1).0 (record { value = negsuc 2999999; seat = 0; serial = 1 }) refl in
           let z : ◌≡◌ {A = ℕ} 0 1 = cc in omega arith;
-      unlocked = λ allows stored a. let q : ◌≡◌ {A = ℕ} 2 1 = a.locks 1 in omega arith;
-      overlocked = λ allows stored a. let q : ◌≡◌ {A = ℕ} 2 17 = a.locks 1 in omega arith;
+      unlocked = λ sums. let q : ◌≡◌ {A = ℕ} 2 1 = sums 1 in omega arith;
+      overlocked = λ sums. let q : ◌≡◌ {A = ℕ} 2 17 = sums 1 in omega arith;
     }
