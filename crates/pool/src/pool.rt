@@ -17,7 +17,8 @@ use calls::state::{State, Step};
 use rules::house::HouseRule;
 use store::latest::last_version;
 use store::reading::ReadingStore;
-use store::version::Version;
+use store::sizes::MOST_ENTRIES;
+use store::version::{LAST_SERIAL, MOST_SEATS, Version};
 use store::writing::WritingStore;
 
 // A store and a house rule, held by value beside a plain table of seats and locks. docs/POOL.md has the calls.
@@ -59,21 +60,23 @@ impl<S: WritingStore, R: HouseRule> Pool<S, R> {
     pub fn holds(&self, seat: usize, entry: usize) -> bool
         ensures { result ≡ (nat_lt seat 16 && nat_lt entry 64 && holds (row_at self.now.table entry) seat) }
     {
-        Seat::new(seat).is_some_and(|seat| entry < 64 && self.table.rows[entry].is_held_by(seat))
+        Seat::new(seat).is_some_and(|seat| entry < MOST_ENTRIES
+            && self.table.rows[entry].is_held_by(seat))
     }
 
     // Whether the seat has voted on the entry.
     pub fn has_voted(&self, seat: usize, entry: usize) -> bool
         ensures { result ≡ (nat_lt seat 16 && nat_lt entry 64 && has (row_at self.now.table entry).voted seat) }
     {
-        Seat::new(seat).is_some_and(|seat| entry < 64 && self.table.rows[entry].has_vote_of(seat))
+        Seat::new(seat).is_some_and(|seat| entry < MOST_ENTRIES
+            && self.table.rows[entry].has_vote_of(seat))
     }
 
     // Withdraws all that is staged, keeps the chains and sets every seat idle with serial 0.
     pub fn open(&mut self, seats: usize) -> Result<(), Fault>
         ensures { Makes S.ReadingStore.reading S.WritingStore.staged self.old (λ s. open_pool s seats) result self.new }
     {
-        if seats < 1 || seats > 16 || self.store.entries() == 0 || self.table.seats != 0 {
+        if seats < 1 || seats > MOST_SEATS || self.store.entries() == 0 || self.table.seats != 0 {
             return Err(Fault::CannotOpen);
         }
         withdraw_all(&mut self.store);
@@ -87,7 +90,7 @@ impl<S: WritingStore, R: HouseRule> Pool<S, R> {
     {
         let Turn { seat, next } = self.check(Step::Begin, seat)?;
         let Place { serial, .. } = self.table.places[seat.number];
-        if serial >= 1_000_000 {
+        if serial >= LAST_SERIAL {
             return Err(Fault::SerialsUsedUp);
         }
         self.table.places[seat.number] = Place {

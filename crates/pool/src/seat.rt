@@ -1,6 +1,8 @@
 ghost use Rattle.std.specs.Prelude.{◌≡◌, ◌^◌, ◌<◌, MatchOption, nat_lt, true, false};
 ghost use Rattle.pool.specs.Masks.{has, with_seat, without_seat};
 
+use store::version::MOST_SEATS;
+
 // A seat that a pool may have: below 16, so that it has a bit in a mask.
 #[derive(Clone, Copy)]
 pub struct Seat {
@@ -13,7 +15,7 @@ impl Seat {
     pub fn new(number: usize) -> Option<Seat>
         ensures { MatchOption result (nat_lt number 16 ≡ false) (λ seat. (nat_lt number 16 ≡ true) × (seat.number ≡ number)) }
     {
-        if number < 16 {
+        if number < MOST_SEATS {
             Some(Seat { number })
         } else {
             None

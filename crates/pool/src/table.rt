@@ -6,6 +6,8 @@ ghost use Rattle.pool.specs.Tables.{fresh};
 
 use crate::seat::Seat;
 use calls::state::State;
+use store::sizes::MOST_ENTRIES;
+use store::version::MOST_SEATS;
 
 // What the pool keeps of a seat.
 #[derive(Clone, Copy)]
@@ -29,8 +31,8 @@ pub struct Row {
 #[derive(Clone, Copy)]
 pub struct Table {
     pub seats: usize,
-    pub places: [Place; 16],
-    pub rows: [Row; 64],
+    pub places: [Place; MOST_SEATS],
+    pub rows: [Row; MOST_ENTRIES],
 }
 
 impl Table {
@@ -50,8 +52,8 @@ impl Table {
         };
         Table {
             seats,
-            places: [idle; 16],
-            rows: [unlocked; 64],
+            places: [idle; MOST_SEATS],
+            rows: [unlocked; MOST_ENTRIES],
         }
     }
 

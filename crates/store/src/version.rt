@@ -4,6 +4,12 @@ ghost use Rattle.store.specs.Texts.{version_text};
 
 use std::fmt;
 
+// How many seats there may be, numbered from 0.
+pub const MOST_SEATS: usize = 16;
+
+// The serial of a seat's last edit; its first has serial 1.
+pub const LAST_SERIAL: u32 = 1_000_000;
+
 // One committed or staged value of an entry, in femtoseconds, with its author: a seat and the serial of that seat's edit.
 #[derive(Clone, Copy, PartialEq, Eq, Debug)]
 pub struct Version {
@@ -24,7 +30,7 @@ impl Version {
     pub fn has_author(self) -> bool
         ensures { result ≡ is_author self }
     {
-        self.seat < 16 && 1 <= self.serial && self.serial <= 1_000_000
+        usize::from(self.seat) < MOST_SEATS && 1 <= self.serial && self.serial <= LAST_SERIAL
     }
 
     // Whether its value lies no farther from 0 than this, on either side.
