@@ -84,7 +84,7 @@ abbrev pub GoesOn : Rule → Moment → List Call → List Answer → Moment →
 GoesOn allows s calls answers now =
     (before : Moment) (seats : ℕ) (past : List Line) → Reached allows before seats past s → Reached allows before seats (history past calls answers) now
 
--- what a run answered and left: as many answers as calls, the pool opened and then called, and the promise
+-- what a run answered and left: as many answers as calls, and the pool opened and then called
 pub record Ran (allows : Rule) (before : Moment) (seats : ℕ) (calls : List Call) (answers : List Answer) (now : Moment) : Type 0 where
   pub each : length answers ≡ length calls
   pub reached : Reached allows before seats (history [] calls answers) now

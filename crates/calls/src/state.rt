@@ -38,8 +38,8 @@ const COMMIT: Option<State> = Some(State::Commit);
 const ABORT: Option<State> = Some(State::Abort);
 
 // For each call, by the state of the seat (idle, editing, voting, commit, abort), the state that it leads to, or none.
-// Decide leads to commit here, and to abort where a vote is no. A constant that is looked up, by a rule of the project; so the
-// two enums are its indices.
+// Decide leads to commit here, and to abort where a vote is no. A constant that is looked up, so that it reads as the table in
+// docs/POOL.md does; the two enums are its indices.
 const STEPS: [[Option<State>; 5]; 9] = [
     [EDITING, NO, NO, NO, NO],
     [NO, EDITING, NO, NO, NO],

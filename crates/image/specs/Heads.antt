@@ -5,11 +5,12 @@ use Rattle.store.specs.Steps.{is_author, within}
 use Rattle.record.specs.declared.record.Record.{Record}
 use Rattle.record.specs.Journals.{chain, last_place, reach}
 
--- lens and lasts have the heads of the first m entries
+-- lens and lasts have the head of entry e
 pub record HeadIs (rs : List Record) (lens lasts : List ℕ) (e : ℕ) : Type 0 where
   pub counted : length (chain rs e) ≡ slice_index lens e
   pub found : last_place rs e ≡ Some (slice_index lasts e)
 
+-- lens and lasts have the heads of the first m entries
 abbrev pub HeadsAre : List Record → List ℕ → List ℕ → ℕ → Type 0
 HeadsAre rs lens lasts m = (e : ℕ) → e < m → HeadIs rs lens lasts e
 

@@ -16,8 +16,8 @@ pub struct Place {
     pub serial: u32,
 }
 
-// What the pool keeps of an entry, plain by a rule of the project: its lock, and who has voted and who voted no. A mask has one
-// bit for each seat.
+// What the pool keeps of an entry: its lock, and who has voted and who voted no. A mask has one bit for each seat. It is plain, so
+// that whoever makes a row owes no proof; a `Lock` is made from it by a check.
 #[derive(Clone, Copy)]
 pub struct Row {
     pub writer: Option<u8>,

@@ -18,7 +18,7 @@ pub struct Version {
     pub serial: u32,
 }
 
-// The version that every chain begins with: nobody wrote it, and the project has seat 255 and serial 0 for that.
+// The version that every chain begins with. Nobody wrote it: seats of authors end at 15, and their serials begin with 1.
 pub const OPENING: Version = Version {
     value: 0,
     seat: 255,

@@ -1,7 +1,7 @@
 ghost use Rattle.std.specs.Prelude.{◌≡◌};
 
-// One edit of a pool, by its seat and serial. Serial 0: the ticket is spent. A ticket is two plain numbers by a rule of the
-// project, so that the prover and not the compiler asks on every way out whether it is spent.
+// One edit of a pool, by its seat and serial. Serial 0, which no edit has: the ticket is spent. A ticket is two plain numbers, so it
+// borrows nothing of the pool, and the prover, not the compiler, asks on every way out whether it is spent.
 pub struct Ticket {
     pub(crate) seat: usize,
     pub(crate) serial: u32,
