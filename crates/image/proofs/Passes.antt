@@ -11,7 +11,16 @@ use Rattle.record.specs.Bytes.{record_read}
 use Rattle.record.specs.Journals.{chain, last_place, records, record_at, entry_record, openings, reach, Journaled, laid_out, published}
 use Rattle.record.proofs.Chains.{length_openings, chain_openings, last_openings, chain_push_same, chain_push_other, last_push_same, last_push_other}
 use Rattle.record.proofs.Written.{length_records}
-use Rattle.image.specs.Heads.{MayCome, HeadsAre, may_come, is_place}
+use Rattle.image.specs.Heads.{HeadsAre, may_come, is_place}
+
+-- a record that a publish may have added: of one of m entries, by an author, within reach, behind the entry's last record,
+-- beside a chain with room
+pub record MayCome (m d : ℕ) (rs : List Record) (r : Record) : Type 0 where
+  pub inside : r.entry < m
+  pub author : is_author r.version ≡ true
+  pub near : within reach r.version.value ≡ true
+  pub behind : r.previous ≡ last_place rs r.entry
+  pub room : length (chain rs r.entry) < d
 
 -- a record more that may come, and the records are still a journal's
 pub more : (m d : ℕ) (rs : List Record) (r : Record) → Journaled m d rs → MayCome m d rs r → Journaled m d (rs ++ r ∷ [])

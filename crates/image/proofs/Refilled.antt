@@ -16,13 +16,12 @@ use Rattle.record.proofs.Written.{length_records, length_records_bytes, written_
 use Rattle.journal.specs.declared.JournalStore.{JournalStore}
 use Rattle.journal.specs.Journal.{records_of, beside, bytes_with, publish_bytes, records_with, publish_records}
 use Rattle.journal.specs.Stores.{journal_of, journal_writing, memory}
-use Rattle.image.specs.Heads.{MayCome}
 use Rattle.image.specs.declared.trailer.Trailer.{Trailer}
 use Rattle.std.specs.Option.{IfSome}
 use Rattle.image.specs.declared.image.Contents.{Contents}
 use Rattle.image.specs.Images.{IsImageOf}
 use Rattle.image.specs.Copies.{filled, Reads}
-use Rattle.image.proofs.Passes.{opens, no_fewer, comes, read_is, read_one}
+use Rattle.image.proofs.Passes.{MayCome, opens, no_fewer, comes, read_is, read_one}
 use Rattle.image.proofs.Tails.{length_image, trailer_is, records_are}
 
 -- with the opening records a store is as just laid out
@@ -129,10 +128,10 @@ module _ (before start staged now : JournalStore) (m d : ℕ) (image : List ℕ)
         }
 
 -- laying out was refused
-pub lay_refused : (before after : JournalStore) (m d : ℕ) (rs : List Record) (refusal : Refusal) → sizes_fit m d ≡ true
+pub lay_refused : (before after : JournalStore) (m d : ℕ) (qs : List Record) (refusal : Refusal) → sizes_fit m d ≡ true
     → Err refusal ≡ lay_answer (length (memory before) / 16) m d → journal_writing after ≡ journal_writing before → memory after ≡ memory before
-    → records_of (journal_of after) ≡ records_of (journal_of before) → Reads before m d rs (Err refusal) after
-lay_refused before after m d rs refusal fit answer means bytes held =
+    → records_of (journal_of after) ≡ records_of (journal_of before) → Reads before m d qs (Err refusal) after
+lay_refused before after m d qs refusal fit answer means bytes held =
     record { answers = answer ∙ cond-true _ _ _ fit; fills = record { means = means; bytes = bytes; records = held } }
 
 -- laid out, the store has the opening records, which are the image's first

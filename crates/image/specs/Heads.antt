@@ -1,5 +1,5 @@
 -- The heads of the chains of some records: how long each chain is, and where its last record begins.
-use Rattle.std.specs.Prelude.{◌≡◌, ℕ, zero, suc, ◌<◌, true, false, Bool, ◌&&◌, List, [], ◌++◌, length, Some, None, Option, nat_lt, nat_eq, slice_index}
+use Rattle.std.specs.Prelude.{◌≡◌, ℕ, zero, suc, ◌<◌, false, Bool, ◌&&◌, List, [], ◌++◌, length, Some, None, Option, nat_lt, nat_eq, slice_index}
 use Rattle.std.specs.Int.{w32, to_le_bytes}
 use Rattle.store.specs.Steps.{is_author, within}
 use Rattle.record.specs.declared.record.Record.{Record}
@@ -14,21 +14,13 @@ pub record HeadIs (rs : List Record) (lens lasts : List ℕ) (e : ℕ) : Type 0 
 abbrev pub HeadsAre : List Record → List ℕ → List ℕ → ℕ → Type 0
 HeadsAre rs lens lasts m = (e : ℕ) → e < m → HeadIs rs lens lasts e
 
--- a record that a publish may have added: of one of m entries, by an author, within reach, behind the entry's last record,
--- beside a chain with room
-pub record MayCome (m d : ℕ) (rs : List Record) (r : Record) : Type 0 where
-  pub inside : r.entry < m
-  pub author : is_author r.version ≡ true
-  pub near : within reach r.version.value ≡ true
-  pub behind : r.previous ≡ last_place rs r.entry
-  pub room : length (chain rs r.entry) < d
-
 -- the place is this number
 abbrev pub is_place : Option ℕ → ℕ → Bool
 is_place None n = false
 is_place (Some p) n = nat_eq p n
 
--- the test of that by the heads
+-- whether a publish may have added the record: of one of m entries, by an author, within reach, behind the last record of its entry,
+-- beside a chain with room; by the heads
 abbrev pub may_come : ℕ → ℕ → List ℕ → List ℕ → Record → Bool
 may_come m d lens lasts r =
     nat_lt r.entry m && (is_author r.version && (within reach r.version.value && (is_place r.previous (slice_index lasts r.entry) && nat_lt (slice_index lens r.entry) d)))

@@ -4,8 +4,8 @@ use Rattle.record.specs.declared.record.Record.{Record}
 use Rattle.record.specs.Journals.{records, Journaled, laid_out}
 use Rattle.record.proofs.Kept as kept
 use Rattle.image.specs.declared.heads.Heads.{Heads}
-use Rattle.image.specs.Heads.{HeadsAre, MayCome}
-use Rattle.image.proofs.Passes.{no_fewer, opens, may, kept_more, heads_more, none_more}
+use Rattle.image.specs.Heads.{HeadsAre}
+use Rattle.image.proofs.Passes.{MayCome, no_fewer, opens, may, kept_more, heads_more, none_more}
 use Rattle.image.proofs.heads.heads_of.Goals as goal
 
 pub returns-then-count-entries-clause-none : goal.returns-then-count-entries-clause-none

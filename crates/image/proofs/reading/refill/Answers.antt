@@ -4,7 +4,7 @@ use Rattle.store.specs.Steps.{Stages, Publishes}
 use Rattle.record.specs.Journals.{records, record_at}
 use Rattle.journal.specs.Stores.{journal_of, journal_writing}
 use Rattle.journal.specs.Journal.{publish_bytes, publish_records}
-use Rattle.image.specs.Heads.{MayCome}
+use Rattle.image.proofs.Passes.{MayCome}
 use Rattle.image.proofs.Refilled.{IsFilled, lay_refused, lay_filled, all_filled, fit, first_are, not_fewer, few_records, read_there, added_is, it_may, stage_is, staged_means, publish_is, filled_more}
 use Rattle.image.proofs.reading.refill.Goals as goal
 
