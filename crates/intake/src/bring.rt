@@ -1,3 +1,4 @@
+ghost use Rattle.std.specs.Prelude.{◌≡◌, OnErr};
 ghost use Rattle.store.specs.Meaning.{writing};
 ghost use Rattle.intake.specs.Bring.{BringsIn};
 
@@ -20,7 +21,8 @@ pub fn bring_in<S: WritingStore, R: HouseRule>(
     rule: &R,
     proposal: Proposal,
 ) -> Result<Outcome, Refusal>
-    ensures { BringsIn (writing S.ReadingStore.reading S.WritingStore.staged store.old) (R.HouseRule.allowed rule.now) proposal.entry proposal.version result (writing S.ReadingStore.reading S.WritingStore.staged store.new) }
+    ensures means { BringsIn (writing S.ReadingStore.reading S.WritingStore.staged store.old) (R.HouseRule.allowed rule.now) proposal.entry proposal.version result (writing S.ReadingStore.reading S.WritingStore.staged store.new) }
+    ensures refused { OnErr result (store.new ≡ store.old) }
 {
     let Proposal { entry, version } = proposal;
     store.stage(entry, version)?;

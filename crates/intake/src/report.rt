@@ -1,4 +1,4 @@
-ghost use Rattle.std.specs.Prelude.{◌≡◌, Some};
+ghost use Rattle.std.specs.Prelude.{◌≡◌, Some, OnErr};
 ghost use Rattle.store.specs.Meaning.{writing};
 ghost use Rattle.intake.specs.Report.{Takes};
 ghost use Rattle.intake.specs.Texts.{brought_text, trouble_text};
@@ -80,7 +80,8 @@ pub fn take_line<S: WritingStore, R: HouseRule>(
     rule: &R,
     line: &str,
 ) -> Result<Option<Brought>, Trouble>
-    ensures { Takes (writing S.ReadingStore.reading S.WritingStore.staged store.old) (R.HouseRule.allowed rule.now) line.now result (writing S.ReadingStore.reading S.WritingStore.staged store.new) }
+    ensures means { Takes (writing S.ReadingStore.reading S.WritingStore.staged store.old) (R.HouseRule.allowed rule.now) line.now result (writing S.ReadingStore.reading S.WritingStore.staged store.new) }
+    ensures refused { OnErr result (store.new ≡ store.old) }
 {
     let Some(proposal) = read_line(line)? else {
         return Ok(None);
