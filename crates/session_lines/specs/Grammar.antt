@@ -1,5 +1,6 @@
 -- How words derive numbers, and what is wrong where they do not.
-use Rattle.std.specs.Prelude.{◌≡◌, ℕ, List, [], ◌∷◌, ℤ, pos, ◌+ℤ◌, ◌*ℤ◌, ◌≤ℤ◌}
+use Rattle.std.specs.Prelude.{◌≡◌, ℕ, true, List, [], ◌∷◌, ℤ, pos, ◌*ℤ◌}
+use Rattle.store.specs.Steps.{within}
 use Rattle.words.specs.Words.{Words, Leads}
 use Rattle.words.specs.Numbers.{Number, Value}
 use Rattle.words.specs.declared.fault.WordFault.TheVariants as W
@@ -18,8 +19,9 @@ pub data Strictness : Type 0 where
   InForm : Strictness
   InReach : Strictness
 
+-- at most 10^17 from 0
 abbrev pub IsInReach : ℤ → Type 0
-IsInReach z = (pos 0 ≤ℤ (z +ℤ pos 100000000000000000)) × (z ≤ℤ pos 100000000000000000)
+IsInReach z = within 100000000000000000 z ≡ true
 
 -- a word derives a number, under a factor for values
 abbrev pub Reads : Strictness → ℕ → List ℕ → Argument → Type 0
