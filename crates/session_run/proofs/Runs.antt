@@ -1,5 +1,5 @@
 -- What a run of the calls on a pool says of a session.
-use Rattle.std.proofs.Common.{◌≡◌, List, Ok, Err, Result, MatchResult, inr, refl, subst}
+use Rattle.std.proofs.Common.{◌≡◌, List, [], Ok, Err, Result, MatchResult, inr, refl, subst}
 use Rattle.std.specs.Prelude.{IsErrAnd}
 use Rattle.calls.specs.Answers.{Answer}
 use Rattle.calls.specs.declared.call.Call.{Call}
@@ -7,7 +7,8 @@ use Rattle.store.specs.Laying.{lay_answer}
 use Rattle.rules.specs.House.{Rule}
 use Rattle.pool.specs.Tables.{Moment}
 use Rattle.pool.specs.Calls.{answer, open_pool}
-use Rattle.alone.specs.Runs.{Ran}
+use Rattle.law.specs.Histories.{history}
+use Rattle.alone.specs.Runs.{Alone, Ran}
 use Rattle.alone.specs.Stops.{Stopped}
 use Rattle.alone.specs.declared.run.Stop.{Stop}
 use Rattle.alone.specs.declared.run.Stop.TheVariants as S
@@ -19,8 +20,8 @@ use Rattle.session_run.specs.declared.trouble.Trouble.{Trouble}
 -- where the calls were made
 pub answered : (sizes : Sizes) (calls : List Call) (answers : List Answer) (a : Rule) (s now : Moment)
     → lay_answer 1024 sizes.entries sizes.depth ≡ Ok tt → a ≡ allowed → s ≡ start sizes
-    → Ran a s sizes.seats calls answers now → Answered sizes calls answers
-answered sizes calls answers a s now laid same_rule same_start ran = (now, laid, rw (← same_rule, ← same_start) ran)
+    → Ran a s sizes.seats calls answers now → Alone a s (history [] calls answers) now → Answered sizes calls answers
+answered sizes calls answers a s now laid same_rule same_start ran alone = (now, laid, rw (← same_rule, ← same_start) ran, rw (← same_rule, ← same_start) alone)
 
 -- where none was
 pub hindered : {T : Type 0} (P : T → Type 0) (sizes : Sizes) (stop : Stop) (s now : Moment) (r : Result T Trouble)

@@ -1,5 +1,5 @@
 -- What running a session file answers and prints.
-use Rattle.std.specs.Prelude.{◌≡◌, ℕ, ◌⊎◌, List, ◌++◌, Ok, Err, codes, replicate}
+use Rattle.std.specs.Prelude.{◌≡◌, ℕ, ◌⊎◌, List, [], ◌++◌, Ok, Err, codes, replicate}
 use Rattle.calls.specs.Answers.{Answer}
 use Rattle.calls.specs.declared.call.Call.{Call}
 use Rattle.calls.specs.declared.fault.Fault.{Fault as PoolFault}
@@ -12,7 +12,8 @@ use Rattle.rules.specs.Limits.{widest, limits_permit}
 use Rattle.rules.specs.Settings.{entry_allows}
 use Rattle.pool.specs.Tables.{Moment, moment, fresh}
 use Rattle.pool.specs.Calls.{answer, open_pool}
-use Rattle.alone.specs.Runs.{Ran}
+use Rattle.law.specs.Histories.{history}
+use Rattle.alone.specs.Runs.{Alone, Ran}
 use Rattle.session_lines.specs.Faults.{fault_text}
 use Rattle.session_lines.specs.declared.fault.Cause.{Cause}
 use Rattle.session_lines.specs.declared.fault.Cause.TheVariants.{Pool}
@@ -31,10 +32,11 @@ allowed = entry_allows limits_permit (replicate 64 widest)
 abbrev pub start : Sizes → Moment
 start sizes = moment (laid_out sizes.entries sizes.depth) (fresh 0)
 
--- the answers of an opened pool to the calls, with the promise that alone::run makes
+-- the answers of an opened pool to the calls, one to each, with the promise that every edit in them is as if made alone
 abbrev pub Answered : Sizes → List Call → List Answer → Type 0
 Answered sizes calls answers =
     (now : Moment) × (lay_answer 1024 sizes.entries sizes.depth ≡ Ok tt) × Ran allowed (start sizes) sizes.seats calls answers now
+    × Alone allowed (start sizes) (history [] calls answers) now
 
 -- the store cannot be laid out, or else the pool cannot be opened
 abbrev pub Refuses : Sizes → Cause → Type 0

@@ -19,7 +19,7 @@ use table::TableStore;
 pub const CELLS: usize = 1_024;
 
 // What a session file prints: the answers to its calls; or its first fault alone; or, where the store cannot be laid out or the
-// pool cannot be opened, that refusal alone.
+// pool cannot be opened, that refusal alone. Every edit in the calls is as if made alone.
 pub fn session_text(heap: Global, file: &[u8]) -> Result<String, AllocError>
     ensures { IfOk result (λ text. Prints file.now (string_bytes text)) }
 {

@@ -21,4 +21,4 @@ returns c =
     let laid : lay_answer 1024 c.args.sizes.entries c.args.sizes.depth ≡ Ok tt = search rules in
     let rule : entry_allows limits_permit c.new-pool.result.rule.settings ≡ allowed = ap (λ r. entry_allows limits_permit r.settings) c.new-pool.ensures.1 ∙ ap (entry_allows limits_permit) c.new.ensures in
     let from_start : at table_reading table_staged c.new-pool.result ≡ start c.args.sizes = search rules in
-    answered c.args.sizes c.args.calls.now c.in_ok-answers.answers.items _ _ _ laid rule from_start c.in_ok-answers.ensures.steps
+    answered c.args.sizes c.args.calls.now c.in_ok-answers.answers.items _ _ _ laid rule from_start c.in_ok-answers.ensures.steps c.in_ok-answers.ensures.alone
