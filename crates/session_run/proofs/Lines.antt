@@ -2,10 +2,6 @@
 use Rattle.std.proofs.Common.{◌≡◌, ℕ, ◌+◌, ◌<◌, List, ◌∷◌, ◌++◌, length, get_or, drop, suc, codes, sym, ap, ◌∙◌, arith, append_assoc, drop-cons}
 use Rattle.calls.specs.Answers.{Answer}
 use Rattle.std.proofs.Common.{inr, Ok, Err, Result, IfOk}
-use Rattle.calls.specs.declared.call.Call.{Call}
-use Rattle.rules.specs.House.{Rule}
-use Rattle.pool.specs.Tables.{Moment}
-use Rattle.alone.specs.Runs.{Ran}
 use Rattle.session_lines.specs.Faults.{fault_text}
 use Rattle.session_lines.specs.declared.fault.SessionFault.{SessionFault}
 use Rattle.session_run.specs.Sessions.{FailsAt, Prints}
@@ -25,6 +21,3 @@ pub fault_prints : {T E : Type 0} (bytes : T → List ℕ) (r : Result T E) (fil
     → IfOk r (λ s. bytes s ≡ fault_text fault ++ codes "\n") → IfOk r (λ text. Prints file (bytes text))
 fault_prints bytes (Ok text) file fault fails written = inr (fault.line, fault.cause, fails, written)
 fault_prints bytes (Err e) file fault fails written = tt
-
-pub ran_from : (a b : Rule) (s t : Moment) (seats : ℕ) (calls : List Call) (answers : List Answer) (now : Moment) → a ≡ b → s ≡ t → Ran a s seats calls answers now → Ran b t seats calls answers now
-ran_from a b s t seats calls answers now same_rule same_start h = rw (← same_rule, ← same_start) h

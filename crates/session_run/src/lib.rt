@@ -5,3 +5,4 @@ pub mod answers;
 pub mod session;
 #[cfg(test)]
 mod tests;
+mod trouble;

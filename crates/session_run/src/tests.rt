@@ -62,6 +62,19 @@ fn a_refusal_of_the_sizes_is_the_whole_output(rt: HostRuntime) -> Result<(), Fai
             "2 refused 16 store\n",
         ),
         (b"timescale 1 ns\npool 1 64 16\nbegin 0\n", "3 serial 1\n"),
+        // The store refuses before the pool, and a size before too few cells.
+        (
+            b"timescale 1 ns\npool 0 65 2\nbegin 0\n",
+            "2 refused 12 store\n",
+        ),
+        (
+            b"timescale 1 ns\npool 17 64 17\nbegin 0\n",
+            "2 refused 16 store\n",
+        ),
+        (
+            b"timescale 1 ns\npool 1 64 201\nbegin 0\n",
+            "2 refused 12 store\n",
+        ),
         (
             b"timescale 1 ns\npool 0 1 2\nbegin 0\n",
             "2 refused 12 pool\n",
