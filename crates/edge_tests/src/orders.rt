@@ -222,7 +222,7 @@ fn aborted(rt: HostRuntime) -> Result<(), Fail> {
 }
 
 // A lock in the way comes after no such seat and wrong state, and before a value that is too far and a chain that is full;
-// a value that is too far comes before a chain that is full.
+// a value that is too far comes before a chain that is full, and so do no such seat and wrong state.
 #[test]
 fn locks_reach_and_depth(rt: HostRuntime) -> Result<(), Fail> {
     let mut pool = a_pool(rt.alloc())?;
@@ -247,6 +247,9 @@ fn locks_reach_and_depth(rt: HostRuntime) -> Result<(), Fail> {
             (read(1, 0), Err(5)),
             (finish(0, 0), Ok(Done)),
             (close(0), Ok(Done)),
+            (write(3, 0, 1), Err(1)),
+            (write(3, 0, TOO_FAR), Err(1)),
+            (write(0, 0, 1), Err(3)),
             (write(1, 0, 1), Err(7)),
             (write(1, 0, TOO_FAR), Err(6)),
             (write(1, 0, -TOO_FAR), Err(6)),

@@ -9,7 +9,7 @@ use table::TableStore;
 
 // What can be seen of a table of up to three entries of depth 3, in up to eight cells, and of one place past each.
 #[derive(Clone, Copy, PartialEq, Eq, Debug)]
-pub struct SeenTable {
+pub(crate) struct SeenTable {
     entries: usize,
     depth: usize,
     chains: [[Option<Version>; 4]; 4],
@@ -17,7 +17,7 @@ pub struct SeenTable {
     cells: [Option<Version>; 9],
 }
 
-pub fn seen_table(table: &TableStore) -> SeenTable {
+pub(crate) fn seen_table(table: &TableStore) -> SeenTable {
     SeenTable {
         entries: table.entries(),
         depth: table.depth(),
@@ -30,14 +30,14 @@ pub fn seen_table(table: &TableStore) -> SeenTable {
 // What can be seen of a pool over such a table: the state and serial of three seats and of one more, which locks they hold
 // and where they have voted, by entry, and the table.
 #[derive(Clone, Copy, PartialEq, Eq, Debug)]
-pub struct SeenPool {
+pub(crate) struct SeenPool {
     places: [Option<(State, u32)>; 4],
     locks: [[bool; 4]; 4],
     votes: [[bool; 4]; 4],
     table: SeenTable,
 }
 
-pub fn seen_pool<R: HouseRule>(pool: &Pool<TableStore, R>) -> SeenPool {
+pub(crate) fn seen_pool<R: HouseRule>(pool: &Pool<TableStore, R>) -> SeenPool {
     SeenPool {
         places: array::from_fn(|seat| pool.place(seat).map(|place| (place.state, place.serial))),
         locks: array::from_fn(|seat| array::from_fn(|entry| pool.holds(seat, entry))),

@@ -9,6 +9,7 @@ use image::copies::write_image;
 use image::reading::read_image;
 use journal::JournalStore;
 use pool::pool::Pool;
+use record::record::SIZE as RECORD_SIZE;
 use rules::range::RangeRule;
 use std::{env, fs};
 use store::reading::ReadingStore;
@@ -19,9 +20,6 @@ const SEATS: usize = 2;
 const ENTRIES: usize = 2;
 
 const DEPTH: usize = 3;
-
-// The bytes of one record.
-const RECORD: usize = 16;
 
 // More than the image of the example has.
 const ROOM: usize = 256;
@@ -75,7 +73,7 @@ fn main(rt: HostRuntime) -> anyhow::Result<()> {
 
 // Makes the calls on a pool over a journal, and writes the image of what they leave.
 fn write(rt: &HostRuntime, path: &str) -> anyhow::Result<()> {
-    let mut journal = JournalStore::over(vec![in rt.alloc(); 0; RECORD * ENTRIES * DEPTH]?);
+    let mut journal = JournalStore::over(vec![in rt.alloc(); 0; RECORD_SIZE * ENTRIES * DEPTH]?);
     journal
         .lay_out(ENTRIES, DEPTH)
         .context("the journal could not be laid out")?;

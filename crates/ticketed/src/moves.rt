@@ -8,7 +8,7 @@ use tickets::edit::{give_up, settle, take};
 use tickets::fate::Fate;
 
 // Takes an amount from entry 0 and adds it to entry 1, both in one edit; a refusal gives the edit up.
-pub fn move_slack<S: WritingStore, R: HouseRule>(
+pub(crate) fn move_slack<S: WritingStore, R: HouseRule>(
     pool: &mut Pool<S, R>,
     seat: usize,
     amount: i64,
@@ -34,7 +34,7 @@ fn write_both<S: WritingStore, R: HouseRule>(
 }
 
 // Seat 1 reads entry 1, and seat 0 tries a move before seat 1 is done. Answers what became of the move and of the look.
-pub fn look_and_move<S: WritingStore, R: HouseRule>(
+pub(crate) fn look_and_move<S: WritingStore, R: HouseRule>(
     pool: &mut Pool<S, R>,
     amount: i64,
 ) -> (Result<Fate, Fault>, Result<Fate, Fault>) {
@@ -48,7 +48,9 @@ pub fn look_and_move<S: WritingStore, R: HouseRule>(
 }
 
 // Someone else aborts and closes the edit: the ticket finds it gone, and is spent all the same.
-pub fn closed_by_hand<S: WritingStore, R: HouseRule>(pool: &mut Pool<S, R>) -> Result<Fate, Fault> {
+pub(crate) fn closed_by_hand<S: WritingStore, R: HouseRule>(
+    pool: &mut Pool<S, R>,
+) -> Result<Fate, Fault> {
     let mut ticket = take(pool, 1)?;
     let _ = pool.abort(1);
     let _ = pool.close(1);
