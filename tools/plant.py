@@ -4,7 +4,7 @@
     tools/plant.py tools/planted.txt COPY OUTCOMES [CRATE..]
 
 A bug is a block of lines: name, crate, what (the bug in words), file (in the crate), and one or more pairs of old and new. A text is one line,
-in which \\n stands for the end of a line; each old text stands in its file exactly once. The bug's crate is checked first, and where it proves,
+in which \\n stands for the end of a line, and \\\\n for those two signs; each old text stands in its file exactly once. The bug's crate is checked first, and where it proves,
 the crates above it; where those prove too, their programs and tests are run. COPY is made from the folder above this one, and kept between runs.
 """
 import os
@@ -14,6 +14,10 @@ import sys
 import time
 
 TOP = os.path.dirname(os.path.dirname(os.path.abspath(__file__)))
+
+
+def unfolded(text):
+    return re.sub(r"\\\\n|\\n", lambda found: "\n" if found.group() == "\\n" else "\\n", text)
 
 
 def blocks(path):
@@ -28,9 +32,9 @@ def blocks(path):
                 yield bug
             bug = {"name": text, "pairs": []}
         elif key == "old":
-            bug["pairs"].append([text.replace("\\n", "\n"), None])
+            bug["pairs"].append([unfolded(text), None])
         elif key == "new":
-            bug["pairs"][-1][1] = text.replace("\\n", "\n")
+            bug["pairs"][-1][1] = unfolded(text)
         else:
             bug[key] = text
     if bug:
