@@ -51,11 +51,11 @@ pub fn rewrite(journal: &mut JournalStore, image: &[u8], out: &mut [u8]) -> Resu
     ensures image { (entries depth : ℕ) (rs : List Record) → IsImageOf image.now entries depth rs → Rewrites journal.old entries depth rs image.now out.old result journal.new out.new }
     ensures other { (IsImage image.now → ⊥) → Refuses journal.old result journal.new × (out.new ≡ out.old) }
 {
-    let contents = contents_of(image).ok_or(Refusal::NoImage)?;
+    let has = contents_of(image).ok_or(Refusal::NoImage)?;
     if out.len() < image.len() {
         return Err(Refusal::MemoryTooShort);
     }
-    refill(journal, image, contents)?;
+    refill(journal, image, has)?;
     write_image(journal, out)
 }
 
