@@ -1,3 +1,3 @@
-pub mod Journal
 pub mod Stores
-pub mod Rows
+pub mod LaidOut
+pub mod Laws

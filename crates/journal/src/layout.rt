@@ -1,95 +1,91 @@
-ghost use Rattle.std.specs.Prelude.{◌≡◌, ◌+◌, ◌*◌, ◌/◌, ◌<◌, ◌≤◌, ◌↔◌, length, Some, IfSome, IsSome};
-ghost use Rattle.store.specs.Laying.{just_laid_out, lay_answer};
-ghost use Rattle.store.specs.Steps.{unless_refused};
+ghost use Rattle.std.specs.Prelude.{◌≡◌, ◌+◌, ◌*◌, ◌<◌, ◌≤◌, ◌↔◌, length, IfSome, IsSome};
+ghost use Rattle.store.specs.Numbers.{most_entries, least_depth};
+ghost use Rattle.store.specs.Laying.{widest_sizes, laid_out_meaning};
+ghost use Rattle.record.specs.Numbers.{record_size, most_records, journal_reach};
 ghost use Rattle.record.specs.Bytes.{record_bytes};
-ghost use Rattle.record.specs.Journals.{reach, written, openings, records, records_bytes, last_place};
-ghost use Rattle.journal.specs.Journal.{opened_bytes, opened_rows, records_of};
-ghost use Rattle.journal.specs.Stores.{journal_of, journal_reading, journal_writing, memory};
+ghost use Rattle.record.specs.Journals.{bytes_with, records, records_bytes};
+ghost use Rattle.journal.specs.LaidOut.{bytes_laid_out, lasts_laid_out};
+ghost use Rattle.journal.specs.Stores.{journal_reading, journal_writing, journal_room, bytes_of, records_of, IsLastPlace, lay_out_leaves};
 
-use crate::{JournalStore, Row};
-use record::record::{Record, SIZE};
+use crate::{JournalStore, REACH};
+use record::record::{RECORD_SIZE, Record};
+use store::laying::LayOut;
 use store::refusal::Refusal;
-use store::sizes::{LEAST_DEPTH, MOST_ENTRIES, sizes_fit};
+use store::sizes::{MOST_ENTRIES, WIDEST};
+use store::slots::Slots;
 use store::version::OPENING;
 
 impl JournalStore {
-    // A store over memory of any length, which stays as it is: no entries until it is laid out.
+    /// A store over memory of any length, which stays as it is: no entries until it is laid out.
     pub fn over(bytes: Vec<u8>) -> JournalStore
-        ensures means { journal_writing result ≡ just_laid_out reach 0 2 }
-        ensures bytes { memory result ≡ bytes.items }
+        ensures means { journal_writing result ≡ laid_out_meaning journal_reach 0 least_depth }
+        ensures bytes { bytes_of result ≡ bytes.items }
     {
         JournalStore {
             bytes,
-            entries: 0,
-            depth: LEAST_DEPTH,
             count: 0,
-            rows: [Row::BLANK; MOST_ENTRIES],
+            lasts: [0; MOST_ENTRIES],
+            slots: Slots::blank(REACH),
         }
     }
 
-    // Gives the store so many entries of such a depth, each with its opening record alone. What was staged is dropped.
-    // Refused, in this order, for a size out of bounds and for fewer than 16 × entries × depth bytes.
-    pub fn lay_out(&mut self, entries: usize, depth: usize) -> Result<(), Refusal>
-        ensures answer { result ≡ lay_answer (length (memory self.old) / 16) entries depth }
-        ensures means { journal_writing self.new ≡ unless_refused result (just_laid_out reach entries depth) (journal_writing self.old) }
-        ensures bytes { memory self.new ≡ unless_refused result (written (memory self.old) 0 (records_bytes (openings entries))) (memory self.old) }
-        ensures records { records_of (journal_of self.new) ≡ unless_refused result (openings entries) (records_of (journal_of self.old)) }
-    {
-        if !sizes_fit(entries, depth) {
-            return Err(Refusal::SizeOrSetting);
-        }
-        if self.bytes.len() < SIZE * (entries * depth) {
-            return Err(Refusal::MemoryTooShort);
-        }
-        let rows = open(&mut self.bytes, entries);
-        self.entries = entries;
-        self.depth = depth;
-        self.count = entries;
-        self.rows = rows;
-        Ok(())
-    }
-
-    // The memory, byte by byte.
+    /// The memory, byte by byte.
     pub fn bytes(&self) -> &[u8]
-        ensures { result.now ≡ memory self.now }
+        ensures { result.now ≡ bytes_of self.now }
     {
         self.bytes.as_slice()
     }
 
-    // The bytes of the records, one after another.
+    /// The bytes of the records, one after another.
     pub fn records(&self) -> &[u8]
-        ensures { result.now ≡ records_bytes (records_of (journal_of self.now)) }
+        ensures { result.now ≡ records_bytes (records_of self.now) }
     {
         front(&self.bytes, self.count)
     }
 
-    // Where the last record of an entry begins; none where there is no such entry.
+    /// Where the last record of an entry begins; none where there is no such entry.
     pub fn last_place(&self, entry: usize) -> Option<u32>
-        ensures place { IfSome result (λ place. last_place (records_of (journal_of self.now)) entry ≡ Some place) }
+        ensures place { IfSome result (IsLastPlace self.now entry) }
         ensures entry { IsSome result ↔ (entry < (journal_reading self.now).entries) }
     {
-        Some(self.row(entry).ok()?.last)
+        self.lasts[..self.slots.entries].get(entry).copied()
     }
 
-    // Gives the memory back.
+    /// Gives the memory back.
     pub fn into_bytes(self) -> Vec<u8>
-        ensures { result.items ≡ memory self }
+        ensures { result.items ≡ bytes_of self }
     {
         let JournalStore { bytes, .. } = self;
         bytes
     }
 }
 
-// The opening record of each entry, in entry order, and the rows beside them.
-fn open(bytes: &mut [u8], entries: usize) -> [Row; MOST_ENTRIES]
-    requires few { entries ≤ 64 }
-    requires room { 16 * entries ≤ length bytes.old }
-    ensures bytes { bytes.new ≡ opened_bytes bytes.old entries }
-    ensures rows { result ≡ opened_rows entries }
+impl LayOut for JournalStore {
+    ghost limits = { widest_sizes };
+
+    ghost room = { journal_room };
+
+    ghost lay_out_leaves = { lay_out_leaves };
+
+    fn lay_out(&mut self, entries: usize, depth: usize) -> Result<(), Refusal> {
+        WIDEST.check(self.bytes.len() / RECORD_SIZE, entries, depth)?;
+        self.lasts = put_openings(&mut self.bytes, entries);
+        self.count = entries;
+        self.slots = Slots::laid_out(REACH, entries, depth);
+        Ok(())
+    }
+}
+
+// The opening record of each entry, in entry order, and the places beside them.
+fn put_openings(bytes: &mut [u8], entries: usize) -> [u32; MOST_ENTRIES]
+    requires few { entries ≤ most_entries }
+    requires room { record_size * entries ≤ length bytes.old }
+    ensures bytes { bytes.new ≡ bytes_laid_out bytes.old entries }
+    ensures lasts { result ≡ lasts_laid_out entries }
 {
-    let mut rows = [Row::BLANK; MOST_ENTRIES];
+    let mut lasts = [0; MOST_ENTRIES];
     for e in 0..entries {
-        let place = SIZE * e;
+        let place = RECORD_SIZE * e;
         put(
             bytes,
             place,
@@ -99,28 +95,24 @@ fn open(bytes: &mut [u8], entries: usize) -> [Row; MOST_ENTRIES]
                 previous: None,
             },
         );
-        rows[e] = Row {
-            len: 1,
-            last: place as u32,
-            staged: None,
-        };
+        lasts[e] = place as u32;
     }
-    rows
+    lasts
 }
 
-// A record in place of the sixteen bytes from a place on.
+// A record in place of as many bytes from a place on.
 pub(crate) fn put(bytes: &mut [u8], place: usize, added: Record)
-    requires { place + 16 ≤ length bytes.old }
-    ensures { bytes.new ≡ written bytes.old place (record_bytes added) }
+    requires { place + record_size ≤ length bytes.old }
+    ensures { bytes.new ≡ bytes_with bytes.old place (record_bytes added) }
 {
-    bytes[place..place + SIZE].copy_from_slice(&added.encode());
+    bytes[place..place + RECORD_SIZE].copy_from_slice(&added.encode());
 }
 
 // The bytes of the first records.
 fn front(bytes: &[u8], count: usize) -> &[u8]
-    requires few { count ≤ 12800 }
-    requires room { 16 * count ≤ length bytes.now }
+    requires few { count ≤ most_records }
+    requires room { record_size * count ≤ length bytes.now }
     ensures { result.now ≡ records_bytes (records bytes.now count) }
 {
-    &bytes[..SIZE * count]
+    &bytes[..RECORD_SIZE * count]
 }

@@ -1,8 +1,8 @@
 ghost use Rattle.journal.specs.Stores.{journal_reading};
-ghost use Rattle.journal.specs.Rows.{journal_readable};
+ghost use Rattle.journal.specs.Laws.{journal_readable};
 
-use crate::{JournalStore, REACH};
-use record::record::{Record, SIZE};
+use crate::JournalStore;
+use record::record::{RECORD_SIZE, Record};
 use store::reading::ReadingStore;
 use store::version::Version;
 
@@ -12,26 +12,25 @@ impl ReadingStore for JournalStore {
     ghost readable = { journal_readable };
 
     fn entries(&self) -> usize {
-        self.entries
+        self.slots.entries
     }
 
     fn depth(&self) -> usize {
-        self.depth
+        self.slots.depth
     }
 
     fn reach(&self) -> u64 {
-        REACH
+        self.slots.reach
     }
 
-    #[tactic(auto, using(crate::specs::Rows::chain_length, crate::specs::Rows::chain_none))]
     fn chain_len(&self, entry: usize) -> usize {
-        self.row(entry).map_or(0, |row| row.len)
+        self.slots.len(entry)
     }
 
     fn version(&self, entry: usize, i: usize) -> Option<Version> {
         let mut before = 0;
         for k in 0..self.count {
-            let record = Record::read(&self.bytes, SIZE * k)?;
+            let record = Record::read(&self.bytes, RECORD_SIZE * k)?;
             if usize::from(record.entry) == entry {
                 if before == i {
                     return Some(record.version);

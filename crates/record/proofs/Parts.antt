@@ -1,12 +1,13 @@
 -- The bytes of a list from a place on, spelled out.
 use Rattle.std.proofs.Common.{◌≡◌, ℕ, suc, ◌+◌, ◌<◌, List, [], ◌∷◌, length, get_or, take, drop, ap, ◌∙◌, arith}
 use Rattle.std.proofs.lemmas.List.{drop_more}
+use Rattle.record.specs.Numbers.{record_size}
 
 more : (xs : List ℕ) (i n : ℕ) → i < length xs → take (suc n) (drop i xs) ≡ get_or xs i 0 ∷ take n (drop (i + 1) xs)
 more xs i n h = ap (take (suc n)) (drop_more xs i 0 h)
 
 -- four bytes at 2, six at 6 and four at 12, of sixteen
-module _ (xs : List ℕ) (long : length xs ≡ 16) where
+module _ (xs : List ℕ) (long : length xs ≡ record_size) where
   pub at_2 : take 4 (drop 2 xs) ≡ get_or xs 2 0 ∷ get_or xs 3 0 ∷ get_or xs 4 0 ∷ get_or xs 5 0 ∷ []
   at_2 =
       more xs 2 3 (omega arith)

@@ -5,10 +5,11 @@ use Rattle.std.proofs.lemmas.Int.{of_z-to_z, to_z-of_z, ints}
 use Rattle.std.proofs.lemmas.List.{drop_more, take_all, drop-drop, take-append-drop, places}
 use Rattle.std.proofs.lemmas.Bool.{cases_lt, cases_eq, lt-ltb, le-ltb, eq-eqb, ne_eqb, cond-true, cond-false}
 use Rattle.std.specs.Int.{w32, w64, to_le_bytes, from_le_bytes}
-use Rattle.store.specs.Steps.{within}
+use Rattle.store.specs.Steps.{is_within}
+use Rattle.record.specs.Numbers.{no_place, journal_reach}
 use Rattle.record.specs.declared.record.Record.{Record}
 use Rattle.record.proofs.Parts.{at_2, at_6, at_12}
-use Rattle.record.specs.Bytes.{record_bytes, record_from, value_bytes, value_from, sign, previous_number, previous_from, Fits, AreSixteen}
+use Rattle.record.specs.Bytes.{record_bytes, record_from, value_bytes, value_from, sign, previous_number, previous_from, Fits, IsWhole}
 
 sign_low : (six : List ℕ) → get_or six 5 0 < 128 → sign six ≡ 0
 sign_low six low = cond-true _ _ _ (lt-ltb (get_or six 5 0) 128 low)
@@ -23,9 +24,9 @@ sign_small six = ⊎_elim (λ low. omega (arith, sign_low six low)) (λ high. om
 pub place_again : (n : ℕ) → previous_number (previous_from n) ≡ n
 place_again n =
     ⊎_elim
-    (λ (is : n ≡ 4294967295). ap previous_number (cond-true _ _ _ (eq-eqb n 4294967295 is)) ∙ sym is)
-    (λ apart. ap previous_number (cond-false _ _ _ (ne_eqb n 4294967295 apart)))
-    (cases_eq n 4294967295)
+    (λ (is : n ≡ no_place). ap previous_number (cond-true _ _ _ (eq-eqb n no_place is)) ∙ sym is)
+    (λ apart. ap previous_number (cond-false _ _ _ (ne_eqb n no_place apart)))
+    (cases_eq n no_place)
 
 module _ (n : ℕ) (fits : n < 18446744073709551616) where
   abbrev six : List ℕ
@@ -40,7 +41,7 @@ module _ (n : ℕ) (fits : n < 18446744073709551616) where
       (λ low. above 0 (sign_low six (omega arith)) (omega arith) (omega arith))
       (λ high. above 255 (sign_high six (omega arith)) (omega arith) (omega arith))
 
-pub value_again : (z : ℤ) → within 140737488355327 z ≡ true → value_from (value_bytes z) ≡ z
+pub value_again : (z : ℤ) → is_within journal_reach z ≡ true → value_from (value_bytes z) ≡ z
 value_again z h =
     let fits : SFits w64 z = grind (arith, ints) in
     let small : of_z w64 z < 18446744073709551616 = omega (arith, ints) in
@@ -92,7 +93,7 @@ module _ (a b c d : ℕ) (ha : a < 256) (hb : b < 256) (hc : c < 256) (hd : d < 
     pub spelled_6 : value_bytes (value_from six_bytes) ≡ six_bytes
     spelled_6 = spelled_above (sign six_bytes) (sign_small six_bytes)
 
-module _ (bytes : List ℕ) (are : AreSixteen bytes) where
+module _ (bytes : List ℕ) (are : IsWhole bytes) where
   abbrev at : ℕ → ℕ
   at i = get_or bytes i 0
 

@@ -1,6 +1,4 @@
-// One record of a journal: sixteen bytes for one version of one entry; and which lists of records a journal may hold.
+// One record of a journal: the bytes of one version of one entry; and which lists of records a journal may hold.
 #![tactic(auto)]
 
 pub mod record;
-#[cfg(test)]
-mod tests;

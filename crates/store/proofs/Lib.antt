@@ -1,2 +1,4 @@
 pub mod Chains
 pub mod Lines
+pub mod SlotLemmas
+pub mod SlotMeans

@@ -1,5 +1,9 @@
+pub mod Numbers
 pub mod Refusals
 pub mod Meaning
 pub mod Steps
 pub mod Texts
 pub mod Laying
+pub mod Slot
+pub mod Slots
+pub mod SlotLaws

@@ -1,46 +1,47 @@
 -- What a reading store and a writing store mean, and what every one of them owes.
 use Rattle.std.specs.Prelude.{◌≡◌, ℕ, ◌<◌, ◌≤◌, true, List, [], ◌∷◌, length, pos, is_some, None, Option, slice_index_or}
 use Rattle.store.specs.declared.version.Version.{Version}
+use Rattle.store.specs.Numbers.{most_entries, least_depth, no_seat, farthest}
 
 -- the version that nobody wrote
 abbrev pub opening : Version
-opening = record { value = pos 0; seat = 255; serial = 0 }
+opening = record { value = pos 0; seat = no_seat; serial = 0 }
 
 -- the last version of a chain; of no chain, the opening version
-abbrev pub last : List Version → Version
-last [] = opening
-last (v ∷ []) = v
-last (v ∷ (w ∷ vs)) = last (w ∷ vs)
+abbrev pub last_version : List Version → Version
+last_version [] = opening
+last_version (version ∷ []) = version
+last_version (_ ∷ (version ∷ later)) = last_version (version ∷ later)
 
 -- a reading store: its entries are those below a number, each with a chain of versions, the oldest first
-pub record Reading : Type 0 where
+pub record ReadingMeaning : Type 0 where
   pub entries : ℕ
   pub depth : ℕ
   pub reach : ℕ
   pub chains : ℕ → List Version
 
 -- a writing store has for each entry one staged version beside the chain, or none
-pub record Writing : Type 0 where
-  pub reading : Reading
+pub record WritingMeaning : Type 0 where
+  pub reading : ReadingMeaning
   pub staged : ℕ → Option Version
 
 -- what a store means, by the two members of its trait
-abbrev pub writing : {S : Type 0} → (S → Reading) → (S → ℕ → Option Version) → S → Writing
-writing reading staged s = record { reading = reading s; staged = staged s }
+abbrev pub meaning_of : {S : Type 0} → (S → ReadingMeaning) → (S → ℕ → Option Version) → S → WritingMeaning
+meaning_of reading staged store = record { reading = reading store; staged = staged store }
 
 -- at most 64 entries, depth 2 or more, reach from 1 to 10^17; a chain has from one version to as many as the depth says,
 -- the opening version first, and there is no chain past the last entry
-pub record Readable (m : Reading) : Type 0 where
-  pub entries_most : m.entries ≤ 64
-  pub depth_least : 2 ≤ m.depth
-  pub reach_least : 1 ≤ m.reach
-  pub reach_most : m.reach ≤ 100000000000000000
-  pub chain_least : (e : ℕ) → e < m.entries → 1 ≤ length (m.chains e)
-  pub chain_most : (e : ℕ) → length (m.chains e) ≤ m.depth
-  pub chain_first : (e : ℕ) → e < m.entries → slice_index_or (m.chains e) 0 opening ≡ opening
-  pub chain_none : (e : ℕ) → m.entries ≤ e → m.chains e ≡ []
+pub record IsSoundReading (store : ReadingMeaning) : Type 0 where
+  pub entries_most : store.entries ≤ most_entries
+  pub depth_least : least_depth ≤ store.depth
+  pub reach_least : 1 ≤ store.reach
+  pub reach_most : store.reach ≤ farthest
+  pub chain_least : (entry : ℕ) → entry < store.entries → 1 ≤ length (store.chains entry)
+  pub chain_most : (entry : ℕ) → length (store.chains entry) ≤ store.depth
+  pub chain_first : (entry : ℕ) → entry < store.entries → slice_index_or (store.chains entry) 0 opening ≡ opening
+  pub chain_none : (entry : ℕ) → store.entries ≤ entry → store.chains entry ≡ []
 
 -- nothing is staged beside a chain that is full, and nothing past the last entry
-pub record Writable (m : Writing) : Type 0 where
-  pub staged_room : (e : ℕ) → is_some (m.staged e) ≡ true → length (m.reading.chains e) < m.reading.depth
-  pub staged_inside : (e : ℕ) → m.reading.entries ≤ e → m.staged e ≡ None
+pub record IsSoundWriting (store : WritingMeaning) : Type 0 where
+  pub staged_room : (entry : ℕ) → is_some (store.staged entry) ≡ true → length (store.reading.chains entry) < store.reading.depth
+  pub staged_inside : (entry : ℕ) → store.reading.entries ≤ entry → store.staged entry ≡ None

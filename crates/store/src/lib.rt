@@ -2,9 +2,11 @@
 #![tactic(auto)]
 
 pub mod latest;
+pub mod laying;
 pub mod reading;
 pub mod refusal;
 pub mod sizes;
+pub mod slots;
 pub mod text;
 pub mod version;
 pub mod writing;

@@ -1,10 +1,10 @@
 ghost use Rattle.std.specs.Prelude.{◌≡◌, Some};
-ghost use Rattle.store.specs.Refusals.{number, reason};
+ghost use Rattle.store.specs.Refusals.{refusal_number, refusal_reason};
 
 use std::error::Error;
 use std::fmt;
 
-// Why a store, a rule's setting or an image is refused, with its number. docs/REFUSALS.md says when.
+/// Why a store, a rule's setting or an image is refused, with its number. docs/REFUSALS.md says when.
 #[derive(Clone, Copy, PartialEq, Eq, Debug)]
 pub enum Refusal {
     NoSuchEntry = 2,
@@ -18,15 +18,16 @@ pub enum Refusal {
 }
 
 impl Refusal {
+    /// The number that REFUSALS.md has for it.
     pub fn number(self) -> u8
-        ensures { result ≡ number self }
+        ensures { result ≡ refusal_number self }
     {
         self as u8
     }
 
-    // In words for the one who asked.
+    /// In words for the one who asked.
     pub fn reason(self) -> &'static str
-        ensures { result.now ≡ reason self }
+        ensures { result.now ≡ refusal_reason self }
     {
         match self {
             Refusal::NoSuchEntry => "no such entry",
@@ -42,7 +43,7 @@ impl Refusal {
 }
 
 impl fmt::Display for Refusal {
-    ghost output = { λ refusal. Some (reason refusal) };
+    ghost output = { λ refusal. Some (refusal_reason refusal) };
 
     fn fmt<W: fmt::Write>(&self, f: &mut fmt::Formatter<W>) -> fmt::Result {
         f.write_str(self.reason())

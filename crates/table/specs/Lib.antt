@@ -1,4 +1,3 @@
-pub mod Table
-pub mod Layout
+pub mod Cells
 pub mod Stores
-pub mod Rows
+pub mod Laws

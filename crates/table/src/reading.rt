@@ -1,7 +1,7 @@
 ghost use Rattle.table.specs.Stores.{table_reading};
-ghost use Rattle.table.specs.Rows.{table_readable};
+ghost use Rattle.table.specs.Laws.{table_readable};
 
-use crate::{REACH, TableStore};
+use crate::TableStore;
 use store::reading::ReadingStore;
 use store::version::Version;
 
@@ -11,24 +11,24 @@ impl ReadingStore for TableStore {
     ghost readable = { table_readable };
 
     fn entries(&self) -> usize {
-        self.entries
+        self.slots.entries
     }
 
     fn depth(&self) -> usize {
-        self.depth
+        self.slots.depth
     }
 
     fn reach(&self) -> u64 {
-        REACH
+        self.slots.reach
     }
 
-    #[tactic(auto, using(crate::specs::Rows::chain_length))]
+    #[tactic(auto, using(crate::specs::Laws::chain_length))]
     fn chain_len(&self, entry: usize) -> usize {
-        self.row(entry).map_or(0, |row| row.len)
+        self.slots.len(entry)
     }
 
-    #[tactic(auto, using(crate::specs::Rows::version_place, crate::specs::Rows::version_at))]
+    #[tactic(auto, using(crate::specs::Laws::version_place, crate::specs::Laws::version_at))]
     fn version(&self, entry: usize, i: usize) -> Option<Version> {
-        (i < self.chain_len(entry)).then(|| self.cells[entry * self.depth + i])
+        (i < self.chain_len(entry)).then(|| self.cells[entry * self.slots.depth + i])
     }
 }

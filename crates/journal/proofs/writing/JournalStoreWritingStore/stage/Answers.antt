@@ -1,7 +1,10 @@
-use Rattle.std.proofs.Common.{arith, rules}
-use Rattle.journal.proofs.Writes.{stage_sound}
+use Rattle.std.proofs.Common.{refl}
+use Rattle.store.proofs.SlotMeans.{stage_means}
+use Rattle.journal.specs.Stores.{chain_at}
 use Rattle.journal.proofs.writing.JournalStoreWritingStore.stage.Goals as goal
 
-pub invariant_of-self-clause-sound : goal.invariant_of-self-clause-sound
-invariant_of-self-clause-sound c =
-    stage_sound c.args.self.now c.args.entry (search rules) c.in_ok-row.row c.in_ok-row.ensures c.args.version (search rules) (search rules) (omega arith)
+pub returns-clause-means : goal.returns-clause-means
+returns-clause-means c =
+    let s = c.args.self.now in
+    let e = c.stage.ensures in
+    stage_means s.slots c.stage.new.self c.args.entry (chain_at s) _ s.counts refl c.stage.result c.args.version e.answer e.leaves e.refused
