@@ -3,3 +3,4 @@ pub mod Tails
 pub mod Copied
 pub mod Refilled
 pub mod Rewritten
+pub mod ReadBack

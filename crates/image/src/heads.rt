@@ -1,12 +1,15 @@
-ghost use Rattle.std.specs.Prelude.{◌≡◌, ℕ, ◌+◌, ◌*◌, ◌<◌, ◌≤◌, true, length, Some, None, IfSome, IfNone, MatchBool, slice_index};
-ghost use Rattle.store.specs.Laying.{sizes_fit};
+ghost use Rattle.std.specs.Prelude.{◌≡◌, ◌*◌, ◌≤◌, ◌↔◌, true, length, None, IsTrue, IfSome, IfNone};
+ghost use Rattle.store.specs.Numbers.{most_entries};
+ghost use Rattle.store.specs.Laying.{sizes_fit, widest_sizes};
 ghost use Rattle.store.specs.Meaning.{opening};
-ghost use Rattle.record.specs.Journals.{Journaled, records, entry_record, openings};
-ghost use Rattle.image.specs.Heads.{HeadsAre, may_come};
+ghost use Rattle.record.specs.Numbers.{record_size, most_records};
+ghost use Rattle.record.specs.Journals.{Journaled, records, entry_record, opening_records};
+ghost use Rattle.image.specs.Heads.{OpenWith, JournaledWith, may_follow};
 
 use journal::REACH;
-use record::record::{Record, SIZE};
+use record::record::{RECORD_SIZE, Record};
 use store::sizes::MOST_ENTRIES;
+use store::version::NO_SEAT;
 
 // The heads of the chains: how long each is, and where its last record begins.
 #[derive(Clone, Copy)]
@@ -18,8 +21,8 @@ pub(crate) struct Heads {
 impl Heads {
     // Whether a publish may have added the record, where the chains have these heads.
     fn allow(&self, added: Record, entries: usize, depth: usize) -> bool
-        requires { entries ≤ 64 }
-        ensures { result ≡ may_come entries depth self.now.lens self.now.lasts added }
+        requires { entries ≤ most_entries }
+        ensures { result ≡ may_follow entries depth self.now.lens self.now.lasts added }
     {
         let entry = usize::from(added.entry);
         entry < entries
@@ -32,7 +35,7 @@ impl Heads {
 
 // Whether the record is the opening one of an entry.
 fn is_opening(first: Record, entry: usize) -> bool
-    ensures { MatchBool result (first ≡ entry_record entry opening None) (first ≡ entry_record entry opening None → ⊥) }
+    ensures { IsTrue result ↔ (first ≡ entry_record entry opening None) }
 {
     let Record {
         entry: of,
@@ -41,21 +44,21 @@ fn is_opening(first: Record, entry: usize) -> bool
     } = first;
     usize::from(of) == entry
         && version.value == 0
-        && version.seat == 255
+        && version.seat == NO_SEAT
         && version.serial == 0
         && previous.is_none()
 }
 
 // The heads of chains of one version each, where the first records are the opening ones in entry order.
-fn opened(bytes: &[u8], entries: usize) -> Option<Heads>
-    requires few { entries ≤ 64 }
-    requires room { 16 * entries ≤ length bytes.now }
-    ensures some { IfSome result (λ heads. (records bytes.now entries ≡ openings entries) × HeadsAre (openings entries) heads.lens heads.lasts entries) }
-    ensures none { IfNone result (records bytes.now entries ≡ openings entries → ⊥) }
+fn opening_heads(bytes: &[u8], entries: usize) -> Option<Heads>
+    requires few { entries ≤ most_entries }
+    requires room { record_size * entries ≤ length bytes.now }
+    ensures some { IfSome result (OpenWith bytes.now entries) }
+    ensures none { IfNone result (records bytes.now entries ≡ opening_records entries → ⊥) }
 {
     let mut lasts = [0; MOST_ENTRIES];
     for e in 0..entries {
-        let place = SIZE * e;
+        let place = RECORD_SIZE * e;
         let first = Record::read(bytes, place)?;
         if !is_opening(first, e) {
             return None;
@@ -70,18 +73,18 @@ fn opened(bytes: &[u8], entries: usize) -> Option<Heads>
 
 // The heads of the chains of the first records, in one pass over them; none where no journal has such records.
 pub(crate) fn heads_of(bytes: &[u8], count: usize, entries: usize, depth: usize) -> Option<Heads>
-    requires sizes { sizes_fit entries depth ≡ true }
-    requires few { count ≤ 12800 }
-    requires room { 16 * count ≤ length bytes.now }
-    ensures some { IfSome result (λ heads. Journaled entries depth (records bytes.now count) × HeadsAre (records bytes.now count) heads.lens heads.lasts entries) }
+    requires sizes { sizes_fit widest_sizes entries depth ≡ true }
+    requires few { count ≤ most_records }
+    requires room { record_size * count ≤ length bytes.now }
+    ensures some { IfSome result (JournaledWith bytes.now count entries depth) }
     ensures none { IfNone result (Journaled entries depth (records bytes.now count) → ⊥) }
 {
     if count < entries {
         return None;
     }
-    let mut heads = opened(bytes, entries)?;
+    let mut heads = opening_heads(bytes, entries)?;
     for k in entries..count {
-        let place = SIZE * k;
+        let place = RECORD_SIZE * k;
         let added = Record::read(bytes, place)?;
         if !heads.allow(added, entries, depth) {
             return None;

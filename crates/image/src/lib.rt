@@ -5,6 +5,4 @@ pub mod copies;
 mod heads;
 pub mod image;
 pub mod reading;
-#[cfg(test)]
-mod tests;
 mod trailer;

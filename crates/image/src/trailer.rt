@@ -1,11 +1,13 @@
-ghost use Rattle.std.specs.Prelude.{◌≡◌};
-ghost use Rattle.image.specs.Images.{trailer_bytes, trailer_from, trailer_read};
+ghost use Rattle.std.specs.Prelude.{◌≡◌, ◌↔◌, IsTrue};
+ghost use Rattle.image.specs.Images.{trailer_bytes, trailer_from, trailer_read, EndsWithMark};
 
 // How many bytes a trailer has.
-pub(crate) const SIZE: usize = 16;
+pub(crate) const TRAILER_SIZE: usize = 16;
 
-// "TRL1"
-const MARK: [u8; 4] = [0x54, 0x52, 0x4C, 0x31];
+// How many of them its mark, and which, "TRL1".
+const MARK_SIZE: usize = 4;
+
+const MARK: [u8; MARK_SIZE] = [0x54, 0x52, 0x4C, 0x31];
 
 // What stands at the end of an image: where the places begin, and how many records, entries and versions of an entry there are.
 #[derive(Clone, Copy)]
@@ -19,7 +21,7 @@ pub(crate) struct Trailer {
 impl Trailer {
     // Little-endian, the mark behind.
     #[tactic(auto, unfolding(crate::specs::Images::trailer_bytes))]
-    pub fn encode(self) -> [u8; SIZE]
+    pub fn encode(self) -> [u8; TRAILER_SIZE]
         ensures { result ≡ trailer_bytes self }
     {
         let [p0, p1, p2, p3] = self.places.to_le_bytes();
@@ -32,9 +34,9 @@ impl Trailer {
         ]
     }
 
-    // The mark is not looked at.
+    // The mark is not looked at: `is_marked` does that.
     #[tactic(auto, unfolding(crate::specs::Images::trailer_from))]
-    pub fn decode(bytes: [u8; SIZE]) -> Trailer
+    pub fn decode(bytes: [u8; TRAILER_SIZE]) -> Trailer
         ensures { result ≡ trailer_from bytes }
     {
         let [p0, p1, p2, p3, n0, n1, n2, n3, e0, e1, d0, d1, ..] = bytes;
@@ -46,11 +48,21 @@ impl Trailer {
         }
     }
 
-    // The one at the end of some bytes; none where they are fewer than sixteen.
+    // The one at the end of some bytes; none where they are fewer than it has.
     pub fn last(bytes: &[u8]) -> Option<Trailer>
         ensures { result ≡ trailer_read bytes.now }
     {
         let trailer = bytes.last_chunk()?;
         Some(Trailer::decode(*trailer))
+    }
+}
+
+// Whether some bytes end with the mark.
+pub(crate) fn is_marked(bytes: &[u8]) -> bool
+    ensures { IsTrue result ↔ EndsWithMark bytes.now }
+{
+    match bytes.last_chunk() {
+        Some(end) => *end == MARK,
+        None => false,
     }
 }

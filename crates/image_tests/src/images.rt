@@ -1,4 +1,3 @@
-use alone::run::run;
 use calls::answer::Decision;
 use calls::answer::Reply::{Decided, Done, Serial, Value, Voted};
 use calls::call::Call;
@@ -9,9 +8,11 @@ use image::reading::read_image;
 use journal::JournalStore;
 use pool::pool::Pool;
 use rules::range::RangeRule;
+use runner::run::run;
 use std::alloc::Global;
 use std::process::Abort;
 use std::test::Fail;
+use store::laying::LayOut;
 use store::reading::ReadingStore;
 use store::refusal::Refusal;
 use store::text::chain_text;

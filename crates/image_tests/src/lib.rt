@@ -6,3 +6,5 @@
 mod images;
 #[cfg(test)]
 mod refusals;
+#[cfg(test)]
+mod small;

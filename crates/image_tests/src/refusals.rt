@@ -5,6 +5,7 @@ use journal::JournalStore;
 use std::alloc::Global;
 use std::array;
 use std::test::Fail;
+use store::laying::LayOut;
 use store::reading::ReadingStore;
 use store::version::Version;
 use store::writing::WritingStore;

@@ -2,17 +2,19 @@
 // their authors, or says why the file is none.
 #![tactic(auto)]
 
-use alone::run::run;
 use anyhow::{Context, anyhow};
 use calls::call::Call;
 use image::copies::write_image;
 use image::reading::read_image;
 use journal::JournalStore;
 use pool::pool::Pool;
-use record::record::SIZE as RECORD_SIZE;
+use record::record::RECORD_SIZE;
 use rules::range::RangeRule;
+use runner::run::run;
 use std::{env, fs};
+use store::laying::LayOut;
 use store::reading::ReadingStore;
+use store::sizes::{MOST_DEPTH, MOST_ENTRIES};
 use store::text::chain_text;
 
 const SEATS: usize = 2;
@@ -24,8 +26,8 @@ const DEPTH: usize = 3;
 // More than the image of the example has.
 const ROOM: usize = 256;
 
-// What a journal of 64 entries and depth 200 wants, which is the largest.
-const MOST_BYTES: usize = 204_800;
+// What the largest journal wants.
+const MOST_BYTES: usize = RECORD_SIZE * MOST_ENTRIES * MOST_DEPTH;
 
 // Seat 0 sets both entries in one edit, and seat 1 then the first.
 const CALLS: [Call; 16] = [

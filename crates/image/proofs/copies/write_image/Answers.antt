@@ -1,7 +1,7 @@
 use Rattle.std.proofs.Common.{◌/◌, length, ap, ◌∙◌, arith}
-use Rattle.record.specs.Journals.{records_bytes, written}
-use Rattle.journal.specs.Journal.{records_of}
-use Rattle.journal.specs.Stores.{journal_of}
+use Rattle.record.specs.Numbers.{record_size}
+use Rattle.record.specs.Journals.{records_bytes, bytes_with}
+use Rattle.journal.specs.Stores.{records_of}
 use Rattle.image.proofs.Copied.{front_short, too_short, tells_length, copied}
 use Rattle.image.proofs.copies.write_image.Goals as goal
 
@@ -22,6 +22,6 @@ returns-clause-answer c =
 pub returns-clause-bytes : goal.returns-clause-bytes
 returns-clause-bytes c =
     c.put-2.ensures
-    ∙ (λ i. written (c.put.ensures i) (length (c.records-records.ensures i)) c.write_tail.new.out)
-    ∙ ap (λ front. written (written c.args.out.now 0 front) (length (records_bytes (records_of (journal_of c.args.journal.now)))) c.write_tail.new.out) c.records-records.ensures
-    ∙ copied c.args.journal.now c.lasts_of.result c.lasts_of.ensures c.args.out.now c.write_tail.new.out _ _ _ _ (ap length c.records-records.ensures) (ap (λ bs. length bs / 16) c.records-records.ensures) c.entries-entries.ensures c.depth.ensures c.write_tail.ensures
+    ∙ (λ i. bytes_with (c.put.ensures i) (length (c.records-records.ensures i)) c.write_tail.new.out)
+    ∙ ap (λ front. bytes_with (bytes_with c.args.out.now 0 front) (length (records_bytes (records_of c.args.journal.now))) c.write_tail.new.out) c.records-records.ensures
+    ∙ copied c.args.journal.now c.lasts_of.result c.lasts_of.ensures c.args.out.now c.write_tail.new.out _ _ _ _ (ap length c.records-records.ensures) (ap (λ bs. length bs / record_size) c.records-records.ensures) c.entries-entries.ensures c.depth.ensures c.write_tail.ensures

@@ -1,5 +1,6 @@
 use Rattle.std.proofs.Common.{ℕ, List, ◌+◌, ◌*◌, ◌≤◌, length, subst, sym, set, get_or, Option, ◌∙◌, arith, rules, length-set}
 use Rattle.std.specs.Option.{IfNone}
+use Rattle.record.specs.Numbers.{record_size}
 use Rattle.record.specs.declared.record.Record.{Record}
 use Rattle.record.specs.Journals.{records, Journaled, laid_out}
 use Rattle.record.proofs.Kept as kept
@@ -51,7 +52,7 @@ loop-k-preserved c =
     let few = kept.few m d c.requires.sizes in
     let lens_long : m ≤ length h.lens = omega (arith, c.loop-k.invariant.lens_long) in
     let lasts_long : m ≤ length h.lasts = omega (arith, c.loop-k.invariant.lasts_long) in
-    let within : 16 * k + 16 ≤ length bytes = omega (arith, c.requires.room) in
+    let within : record_size * k + record_size ≤ length bytes = omega (arith, c.requires.room) in
     let is = sym c.in_ok-added.was ∙ c.read.ensures in
     let fine = sym c.if-not-allow.ensures in
     let come : MayCome m d (records bytes k) r = may m d (records bytes k) h.lens h.lasts c.loop-k.invariant.heads r fine in
@@ -59,6 +60,6 @@ loop-k-preserved c =
     record {
       kept = kept_more m d bytes k h.lens h.lasts lens_long lasts_long r within is c.loop-k.invariant.heads fine c.loop-k.invariant.kept;
       lens_long = length-set h.lens c.from-entry.result (get_or h.lens c.from-entry.result 0 + 1) ∙ c.loop-k.invariant.lens_long;
-      lasts_long = length-set h.lasts c.from-entry.result (16 * k) ∙ c.loop-k.invariant.lasts_long;
-      heads = subst (λ (e : ℕ). HeadsAre (records bytes (k + 1)) (set h.lens e (get_or h.lens e 0 + 1)) (set h.lasts e (16 * k)) m) (sym c.from-entry.ensures) next;
+      lasts_long = length-set h.lasts c.from-entry.result (record_size * k) ∙ c.loop-k.invariant.lasts_long;
+      heads = subst (λ (e : ℕ). HeadsAre (records bytes (k + 1)) (set h.lens e (get_or h.lens e 0 + 1)) (set h.lasts e (record_size * k)) m) (sym c.from-entry.ensures) next;
     }

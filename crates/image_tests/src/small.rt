@@ -1,6 +1,6 @@
-use crate::copies::write_image;
-use crate::image::is_image;
-use crate::reading::read_image;
+use image::copies::write_image;
+use image::image::is_image;
+use image::reading::read_image;
 use journal::JournalStore;
 use std::test::Fail;
 use store::reading::ReadingStore;
