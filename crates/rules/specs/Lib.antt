@@ -1,5 +1,6 @@
 pub mod House
 pub mod Settings
+pub mod EntryRule
 pub mod Limits
 pub mod Range
 pub mod Step

@@ -1,14 +1,15 @@
 -- A rule by limits, one pair of them for each entry.
-use Rattle.std.specs.Prelude.{ℕ, Bool, ◌&&◌, List, ℤ, nat_lt, slice_index_or}
-use Rattle.store.specs.Steps.{Answer}
+use Rattle.std.specs.Prelude.{◌&&◌, List, nat_lt, slice_index_or}
 use Rattle.rules.specs.declared.limits.Limits.{Limits}
-use Rattle.rules.specs.Limits.{zeros, limits_stand, between}
-use Rattle.rules.specs.Settings.{Sets}
+use Rattle.rules.specs.House.{Rule, SaysTheSame}
+use Rattle.rules.specs.Limits.{zeros, is_between}
+use Rattle.rules.specs.Settings.{settings_count}
 
--- yes to a new value between the limits of one of the 64 entries
-abbrev pub range_allows : List Limits → ℕ → ℤ → Bool
-range_allows limits entry new = nat_lt entry 64 && between (slice_index_or limits entry zeros) new
+-- yes to a new value between the limits of an entry that has some, whatever the last value was
+abbrev pub range_allows : List Limits → Rule
+range_allows limits entry _ new =
+    nat_lt entry settings_count && is_between (slice_index_or limits entry zeros) new
 
--- limits are set at one entry, and refused limits change nothing
-abbrev pub SetsLimits : List Limits → ℕ → Limits → Answer → List Limits → Type 0
-SetsLimits = Sets limits_stand
+-- a rule that says yes within these limits, and nowhere else
+abbrev pub KeepsToLimits : Rule → List Limits → Type 0
+KeepsToLimits rule limits = SaysTheSame rule (range_allows limits)

@@ -1,31 +1,33 @@
 -- A rule by steps, one for each entry.
-use Rattle.std.specs.Prelude.{ℕ, Bool, ◌&&◌, List, ℤ, ◌-ℤ◌, nat_le, nat_lt, slice_index_or, unsigned_abs}
-use Rattle.store.specs.Steps.{Answer}
+use Rattle.std.specs.Prelude.{ℕ, Bool, ◌&&◌, ◌*◌, List, ℤ, ◌-ℤ◌, nat_le, nat_lt, slice_index_or, unsigned_abs}
+use Rattle.store.specs.Numbers.{farthest}
 use Rattle.rules.specs.declared.step.Step.{Step}
-use Rattle.rules.specs.Settings.{Sets}
+use Rattle.rules.specs.House.{Rule, SaysTheSame}
+use Rattle.rules.specs.Settings.{settings_count}
 
 -- a step by its number
 abbrev pub step_of : ℕ → Step
-step_of n = record { 0 = n }
+step_of number = record { 0 = number }
 
 -- from one end of the values to the other
 abbrev pub longest : ℕ
-longest = 200000000000000000
+longest = 2 * farthest
 
 abbrev pub longest_step : Step
 longest_step = step_of longest
 
 abbrev pub step_stands : Step → Bool
-step_stands s = nat_le s.0 longest
+step_stands step = nat_le step.0 longest
 
--- the new value differs from the last by at most the step
+-- the new value is no farther from the last than the step
 abbrev pub step_permits : Step → ℤ → ℤ → Bool
-step_permits s last new = nat_le (unsigned_abs (new -ℤ last)) s.0
+step_permits step last new = nat_le (unsigned_abs (new -ℤ last)) step.0
 
--- yes to a new value that differs from the last by at most the step of one of the 64 entries
-abbrev pub step_allows : List Step → ℕ → ℤ → ℤ → Bool
-step_allows steps entry last new = nat_lt entry 64 && nat_le (unsigned_abs (new -ℤ last)) (slice_index_or steps entry (step_of 0)).0
+-- yes to a new value that is no farther from the last than the step of an entry that has one
+abbrev pub step_allows : List Step → Rule
+step_allows steps entry last new =
+    nat_lt entry settings_count && step_permits (slice_index_or steps entry (step_of 0)) last new
 
--- a step is set at one entry, and a refused step changes nothing
-abbrev pub SetsStep : List Step → ℕ → Step → Answer → List Step → Type 0
-SetsStep = Sets step_stands
+-- a rule that says yes within these steps, and nowhere else
+abbrev pub KeepsToSteps : Rule → List Step → Type 0
+KeepsToSteps rule steps = SaysTheSame rule (step_allows steps)

@@ -6,7 +6,7 @@ use crate::setting::Setting;
 
 pub mod ops;
 
-// A house rule with a setting of its own for each entry.
+/// A house rule with a setting of its own for each entry.
 #[derive(Drop)]
 pub struct EntryRule<T: Setting> {
     settings: [T; ENTRIES],

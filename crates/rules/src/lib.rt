@@ -7,5 +7,3 @@ pub mod limits;
 pub mod range;
 pub mod setting;
 pub mod step;
-#[cfg(test)]
-mod tests;

@@ -5,9 +5,9 @@ ghost use Rattle.rules.specs.Limits.{widest, limits_stand, limits_permit};
 use crate::setting::Setting;
 
 // The farthest that a limit may lie from 0 on either side, in femtoseconds.
-const FARTHEST: i64 = 100_000_000_000_000_000;
+const FARTHEST: i64 = store::version::FARTHEST as i64;
 
-// The smallest and the largest value that an entry may take, both included.
+/// The smallest and the largest value that an entry may take, both included, in femtoseconds.
 #[derive(Clone, Copy, PartialEq, Eq, Debug)]
 pub struct Limits {
     pub smallest: i64,

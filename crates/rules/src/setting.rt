@@ -1,8 +1,9 @@
-ghost use Rattle.std.specs.Prelude.{◌≡◌, Bool, true, ℤ};
+ghost use Rattle.std.specs.Prelude.{◌≡◌, Bool, true};
+ghost use Rattle.rules.specs.Settings.{Permission, IsAsWide};
 
-// What a house sets for one entry, and what it then says yes to there.
+/// What a house sets for one entry, and what it then says yes to there.
 pub trait Setting: Copy {
-    // It stands, and says yes wherever any other that stands does.
+    /// It stands, and says yes wherever any other that stands does.
     const WIDEST: Self;
 
     ghost WIDEST: { Self };
@@ -11,7 +12,7 @@ pub trait Setting: Copy {
     ghost stands: { Self → Bool };
 
     // Its yes or no to a new value, from the last value of the entry's chain.
-    ghost permits: { Self → ℤ → ℤ → Bool };
+    ghost permits: { Self → Permission };
 
     fn stands(self) -> bool
         ensures { result ≡ stands self };
@@ -21,5 +22,5 @@ pub trait Setting: Copy {
 
     ghost widest_stands: { stands WIDEST ≡ true };
 
-    ghost widest_permits: { (s : Self) (last new : ℤ) → stands s ≡ true → permits s last new ≡ true → permits WIDEST last new ≡ true };
+    ghost widest_permits: { (s : Self) → stands s ≡ true → IsAsWide (permits s) (permits WIDEST) };
 }

@@ -1,5 +1,6 @@
 ghost use Rattle.std.specs.Prelude.{◌≡◌, replicate};
-ghost use Rattle.rules.specs.Settings.{entry_allows, Sets};
+ghost use Rattle.rules.specs.EntryRule.{settings_of, SetsEntry};
+ghost use Rattle.rules.specs.Settings.{entry_allows, settings_count};
 
 use super::EntryRule;
 use crate::house::{ENTRIES, HouseRule};
@@ -7,18 +8,18 @@ use crate::setting::Setting;
 use store::refusal::Refusal;
 
 impl<T: Setting> EntryRule<T> {
-    // At first every entry has the widest setting.
+    /// At first every entry has the widest setting.
     pub fn new() -> EntryRule<T>
-        ensures { result.settings ≡ replicate 64 T.WIDEST }
+        ensures { settings_of result ≡ replicate settings_count T.WIDEST }
     {
         EntryRule {
             settings: [T::WIDEST; ENTRIES],
         }
     }
 
-    // Sets one entry. Where it refuses, nothing changes.
+    /// Sets one entry. Refuses an entry above 63 (2), then a setting that does not stand (12), and then changes nothing.
     pub fn set_entry(&mut self, entry: usize, setting: T) -> Result<(), Refusal>
-        ensures { Sets T.stands self.old.settings entry setting result self.new.settings }
+        ensures { SetsEntry self.old entry setting result self.new }
     {
         // Not by `get_mut`: of an array after it a proof knows the length alone.
         if entry >= ENTRIES {
@@ -33,7 +34,7 @@ impl<T: Setting> EntryRule<T> {
 }
 
 impl<T: Setting> HouseRule for EntryRule<T> {
-    ghost allowed = { λ rule. entry_allows T.permits rule.settings };
+    ghost allowed = { λ rule. entry_allows T.permits (settings_of rule) };
 
     fn allows(&self, entry: usize, last: i64, new: i64) -> bool {
         self.settings
