@@ -1,3 +1,5 @@
+pub mod Names
+pub mod Failures
 pub mod Faults
 pub mod States
 pub mod Answers

@@ -4,15 +4,15 @@ ghost use Rattle.calls.specs.Texts.{decision_text, reply_text};
 use crate::fault::Fault;
 use std::fmt;
 
-// How an edit is decided.
+/// How an edit is decided.
 #[derive(Clone, Copy, PartialEq, Eq, Debug)]
 pub enum Decision {
     Commit,
     Abort,
 }
 
-// What a pool answers to a call that it accepts: begin its serial, read a value, vote whether the vote is yes,
-// decide its decision, every other call only that it is done.
+/// What a pool answers to a call that it accepts: begin its serial, read a value, vote whether the vote is yes,
+/// decide its decision, every other call only that it is done.
 #[derive(Clone, Copy, PartialEq, Eq, Debug)]
 pub enum Reply {
     Serial(u32),
@@ -22,7 +22,7 @@ pub enum Reply {
     Done,
 }
 
-// What a pool answers to a call: a reply, or why it refuses.
+/// What a pool answers to a call: a reply, or why it refuses.
 pub type Answer = Result<Reply, Fault>;
 
 impl fmt::Display for Decision {

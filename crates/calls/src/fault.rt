@@ -1,13 +1,13 @@
 ghost use Rattle.std.specs.Prelude.{◌≡◌, Some};
 ghost use Rattle.calls.specs.declared.fault.Fault.TheVariants.{Store};
-ghost use Rattle.calls.specs.Faults.{number};
+ghost use Rattle.calls.specs.Faults.{fault_number};
 ghost use Rattle.calls.specs.Texts.{fault_text};
 
 use std::error::Error;
 use std::fmt;
 use store::refusal::Refusal;
 
-// Why a pool refuses. What its store refuses is passed up as it is.
+/// Why a pool refuses. What its store refuses is passed up as it is.
 #[derive(Clone, Copy, PartialEq, Eq, Debug)]
 pub enum Fault {
     NoSuchSeat,
@@ -23,9 +23,9 @@ pub enum Fault {
 }
 
 impl Fault {
-    // Not the number of its case, as a refusal's is: one case carries a refusal, which has a number of its own.
+    /// Not the number of its case, as a refusal's is: one case carries a refusal, which has a number of its own.
     pub fn number(self) -> u8
-        ensures { result ≡ number self }
+        ensures { result ≡ fault_number self }
     {
         match self {
             Fault::NoSuchSeat => 1,

@@ -3,5 +3,6 @@
 
 pub mod answer;
 pub mod call;
+pub mod failure;
 pub mod fault;
 pub mod state;

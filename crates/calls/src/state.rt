@@ -1,7 +1,9 @@
 ghost use Rattle.std.specs.Prelude.{◌≡◌};
-ghost use Rattle.calls.specs.States.{next};
+ghost use Rattle.calls.specs.States.{next_state};
 
-// The state of a seat's edit. An idle seat has none.
+use crate::call::CallName;
+
+/// The state of a seat's edit. An idle seat has none.
 #[derive(Clone, Copy, PartialEq, Eq, Debug)]
 pub enum State {
     Idle,
@@ -9,20 +11,6 @@ pub enum State {
     Voting,
     Commit,
     Abort,
-}
-
-// The calls, as the rows of the step table.
-#[derive(Clone, Copy, PartialEq, Eq, Debug)]
-pub enum Step {
-    Begin,
-    Read,
-    Write,
-    Prepare,
-    Vote,
-    Decide,
-    Abort,
-    Finish,
-    Close,
 }
 
 const NO: Option<State> = None;
@@ -40,7 +28,7 @@ const ABORT: Option<State> = Some(State::Abort);
 // For each call, by the state of the seat (idle, editing, voting, commit, abort), the state that it leads to, or none.
 // Decide leads to commit here, and to abort where a vote is no. A constant that is looked up, so that it reads as the table in
 // docs/POOL.md does; the two enums are its indices.
-const STEPS: [[Option<State>; 5]; 9] = [
+const STEPS: &[[Option<State>; 5]; 9] = &[
     [EDITING, NO, NO, NO, NO],
     [NO, EDITING, NO, NO, NO],
     [NO, EDITING, NO, NO, NO],
@@ -52,8 +40,8 @@ const STEPS: [[Option<State>; 5]; 9] = [
     [NO, NO, NO, IDLE, IDLE],
 ];
 
-pub fn next_state(step: Step, state: State) -> Option<State>
-    ensures { result ≡ next step state }
+pub fn next_state(name: CallName, state: State) -> Option<State>
+    ensures { result ≡ next_state name state }
 {
-    STEPS[step as usize][state as usize]
+    STEPS[name as usize][state as usize]
 }
