@@ -1,8 +1,12 @@
 -- Laws of the test for equal numbers, and of counting.
 use Rattle.std.proofs.Common.{◌≡◌, ℕ, zero, suc, ◌+◌, ◌<◌, Bool, true, false, cond, eqb, ◌⊎◌, refl, subst, inl, inr, arith}
 use Rattle.std.proofs.lemmas.Bool.{eqb-true, eq-eqb, eqb-false, cases_Bool}
-use Rattle.law.specs.Histories.{same}
-use Rattle.law.specs.OneByOne.{count}
+use Rattle.promise.specs.Histories.{same}
+use Rattle.promise.specs.OneByOne.{count_below}
+
+-- what cannot be
+pub no : {A : Type 0} → ◌≡◌ {A = ℕ} 0 1 → A
+no z = absurd (omega arith)
 
 pub same_refl : (a : ℕ) → same a a ≡ true
 unfolding same
@@ -32,26 +36,26 @@ at P s here there x = go (cases_Bool (same s x))
     go (inl h) = subst P (same_true s x h) here
     go (inr h) = there x h
 
-pub count_ext : (f g : ℕ → Bool) (n : ℕ) → ((x : ℕ) → x < n → f x ≡ g x) → count f n ≡ count g n
+pub count_ext : (f g : ℕ → Bool) (n : ℕ) → ((x : ℕ) → x < n → f x ≡ g x) → count_below f n ≡ count_below g n
 count_ext f g zero h = refl
 count_ext f g (suc n) h =
     let a : f n ≡ g n = h n (omega arith) in
-    let b : count f n ≡ count g n = count_ext f g n (λ x l. h x (omega arith)) in cc
+    let b : count_below f n ≡ count_below g n = count_ext f g n (λ x l. h x (omega arith)) in cc
 
-pub count_none : (f : ℕ → Bool) (n : ℕ) → ((x : ℕ) → x < n → f x ≡ false) → count f n ≡ 0
+pub count_none : (f : ℕ → Bool) (n : ℕ) → ((x : ℕ) → x < n → f x ≡ false) → count_below f n ≡ 0
 count_none f zero h = refl
 count_none f (suc n) h = rw (h n (omega arith)) (count_none f n (λ x l. h x (omega arith)))
 
 -- two tests that differ at one number at most
 pub count_one : (f g : ℕ → Bool) (s n : ℕ) → s < n → ((x : ℕ) → x < n → same s x ≡ false → g x ≡ f x)
-    → count g n + cond (f s) 1 0 ≡ count f n + cond (g s) 1 0
+    → count_below g n + cond (f s) 1 0 ≡ count_below f n + cond (g s) 1 0
 count_one f g s zero l h = omega arith
 count_one f g s (suc n) l h = go (λ m. count_one f g s n m (λ x k. h x (omega arith))) (same_tells s n)
   where
-    go : (s < n → count g n + cond (f s) 1 0 ≡ count f n + cond (g s) 1 0) → ((same s n ≡ true) × (s ≡ n)) ⊎ ((same s n ≡ false) × (s ≡ n → ⊥))
-        → count g (suc n) + cond (f s) 1 0 ≡ count f (suc n) + cond (g s) 1 0
+    go : (s < n → count_below g n + cond (f s) 1 0 ≡ count_below f n + cond (g s) 1 0) → ((same s n ≡ true) × (s ≡ n)) ⊎ ((same s n ≡ false) × (s ≡ n → ⊥))
+        → count_below g (suc n) + cond (f s) 1 0 ≡ count_below f (suc n) + cond (g s) 1 0
     go ih (inl q) =
-        let a : count g n ≡ count f n = count_ext g f n (λ x m. h x (omega arith) (same_apart s x (λ t. omega (arith, q.1)))) in
+        let a : count_below g n ≡ count_below f n = count_ext g f n (λ x m. h x (omega arith) (same_apart s x (λ t. omega (arith, q.1)))) in
         rw q.1 (grind arith)
     go ih (inr q) =
         let u : s ≡ n → ⊥ = q.1 in

@@ -2,8 +2,8 @@ use Rattle.std.proofs.Common.{◌≡◌, ℕ, true, false, List, length, pos, ne
 use Rattle.calls.specs.declared.answer.Reply.TheVariants.{Value}
 use Rattle.calls.specs.Answers.{Answer}
 use Rattle.store.specs.declared.version.Version.{Version}
-use Rattle.law.specs.Histories.{same}
-use Rattle.law.proofs.wrong_pools_fail.Goals as goal
+use Rattle.promise.specs.Histories.{same}
+use Rattle.promise.proofs.wrong_pools_fail.Goals as goal
 
 pub returns : goal.returns
 unfolding same
@@ -18,4 +18,7 @@ returns c =
           let z : ◌≡◌ {A = ℕ} 0 1 = cc in omega arith;
       unlocked = λ sums. let q : ◌≡◌ {A = ℕ} 2 1 = sums 1 in omega arith;
       overlocked = λ sums. let q : ◌≡◌ {A = ℕ} 2 17 = sums 1 in omega arith;
+      late = λ kept.
+          let q : false ≡ true = kept (record { seat = 0; serial = 1 }) (record { seat = 1; serial = 1 }) refl refl refl in
+          let z : ◌≡◌ {A = ℕ} 0 1 = cc in omega arith;
     }

@@ -1,6 +1,7 @@
 pub mod Sames
 pub mod Edits
 pub mod Views
-pub mod Cells
+pub mod Agreements
+pub mod Times
 pub mod Steps
 pub mod Law

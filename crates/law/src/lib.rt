@@ -1,9 +1,0 @@
-// What "every edit as if made alone" means for a history of calls, and the proof that a pool's steps keep to it.
-#![tactic(auto)]
-
-ghost use Rattle.law.specs.Wrong.{WrongPoolsFail};
-
-// The promise is not for nothing: each of its parts refuses a pool that is wrong in that part.
-pub fn wrong_pools_fail()
-    ensures { WrongPoolsFail }
-{}
