@@ -1,7 +1,8 @@
-pub mod Tables
 pub mod Masks
 pub mod Locks
-pub mod Checks
-pub mod Scans
+pub mod LockRows
+pub mod Tables
+pub mod Admissions
+pub mod Withdrawals
 pub mod Calls
 pub mod Pools

@@ -1,15 +1,16 @@
--- Sets of seats as masks: one bit for each seat.
-use Rattle.std.specs.Prelude.{ℕ, ◌-◌, ◌^◌, Bool, not, ◌==◌, bit_and, bit_or}
+-- Sets of numbers below 64, seats or entries, as masks: bit k is 1 where k is in the set.
+use Rattle.std.specs.Prelude.{ℕ, ◌^◌, Bool, ◌==◌, bit_and, bit_or}
+use Rattle.std.specs.Int.{w64, bit_at, bit_not}
 
-abbrev pub has : ℕ → ℕ → Bool
-has mask p = not (bit_and mask (2 ^ p) == 0)
+abbrev pub has_member : ℕ → ℕ → Bool
+has_member mask member = bit_at mask member == 1
 
-abbrev pub with_seat : ℕ → ℕ → ℕ
-with_seat mask p = bit_or mask (2 ^ p)
+abbrev pub with_member : ℕ → ℕ → ℕ
+with_member mask member = bit_or mask (2 ^ member)
 
-abbrev pub without_seat : ℕ → ℕ → ℕ
-without_seat mask p = bit_and mask (65535 - 2 ^ p)
+abbrev pub without_member : ℕ → ℕ → ℕ
+without_member mask member = bit_and mask (bit_not w64 (2 ^ member))
 
--- the mask has a seat other than p
-abbrev pub has_other : ℕ → ℕ → Bool
-has_other mask p = not (bit_or mask (2 ^ p) == 2 ^ p)
+-- each member of the first set is in the second
+abbrev pub is_subset : ℕ → ℕ → Bool
+is_subset first second = bit_or first second == second

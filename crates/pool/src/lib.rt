@@ -1,9 +1,8 @@
 // The pool: seats that edit the entries of one store under strict two-phase locking with two-phase commit.
 #![tactic(auto)]
 
-mod checks;
+mod admission;
 mod lock;
+mod mask;
 pub mod pool;
-mod row;
-pub mod seat;
 pub mod table;

@@ -1,97 +1,127 @@
-ghost use Rattle.std.specs.Prelude.{◌≡◌, true, false, is_some, Some, MatchOption, MatchResult};
-ghost use Rattle.calls.specs.declared.fault.Fault.TheVariants.{LockInTheWay};
-ghost use Rattle.pool.specs.Masks.{has_other, with_seat};
-ghost use Rattle.pool.specs.Locks.{is_lock, by_writer, with_lock, share, claim};
+ghost use Rattle.std.specs.Prelude.{◌≡◌, true, is_some, IsTrue, IsFalse, IfSome, IfNone};
+ghost use Rattle.pool.specs.Locks.{is_lock, is_writer, holds, lock_shared, lock_claimed};
+ghost use Rattle.pool.specs.Locks.{shared_row, claimed_row, released_row};
 
-use crate::seat::Seat;
-use crate::table::Row;
+use crate::mask::{has_member, with_member, without_member};
+use crate::table::{Row, Seat};
 use calls::fault::Fault;
 
 // A lock has one writing seat and no reader, or no writer and any set of readers.
 #[derive(Clone, Copy)]
 pub(crate) struct Lock {
     writer: Option<u8>,
-    readers: u16,
+    readers: u64,
     ghost exclusive: { is_some writer ≡ true → readers ≡ 0 },
 }
 
 impl Lock {
+    ghost use Rattle.pool.specs.LockRows.{row_of, row_or_fault};
+
     // The lock that a row stands for, where it stands for one.
-    fn of(row: Row) -> Option<Lock>
-        ensures { MatchOption result (is_lock row ≡ false) (λ l. (is_lock row ≡ true) × (l.writer ≡ row.writer) × (l.readers ≡ row.readers)) }
+    fn of(old: Row) -> Option<Lock>
+        ensures lock { IfSome result (λ lock. row_of lock ≡ old) }
+        ensures found { IfSome result (λ _. IsTrue (is_lock old)) }
+        ensures none { IfNone result (IsFalse (is_lock old)) }
     {
-        if row.writer.is_some() && row.readers != 0 {
+        if old.writer.is_some() && old.readers != 0 {
             return None;
         }
         Some(Lock {
-            writer: row.writer,
-            readers: row.readers,
+            writer: old.writer,
+            readers: old.readers,
         })
     }
 
-    // The row with this lock in the place of its own.
-    fn put(self, row: Row) -> Row
-        ensures { result ≡ with_lock row self.writer self.readers }
+    // The row that stands for it.
+    fn row(self) -> Row
+        ensures { result ≡ row_of self }
     {
         Row {
             writer: self.writer,
             readers: self.readers,
-            ..row
         }
     }
 
     // Shared with the seat for reading, unless another seat writes.
     fn shared(self, seat: Seat) -> Result<Lock, Fault>
-        ensures { MatchResult result (λ l. (l.writer ≡ self.writer) × (l.readers ≡ by_writer self.writer seat.number self.readers self.readers (with_seat self.readers seat.number)) × (by_writer self.writer seat.number true false true ≡ true)) (λ f. (f ≡ LockInTheWay) × (by_writer self.writer seat.number true false true ≡ false)) }
+        ensures { row_or_fault result ≡ lock_shared (row_of self) seat.number }
     {
         match self.writer {
             None => Ok(Lock {
                 writer: None,
-                readers: seat.added_to(self.readers),
+                readers: with_member(self.readers, seat.number),
             }),
             Some(writer) if writer == seat.byte() => Ok(self),
             Some(_) => Err(Fault::LockInTheWay),
         }
     }
 
-    // Whether another seat holds it.
-    fn is_held_by_another(self, seat: Seat) -> bool
-        ensures { result ≡ by_writer self.writer seat.number false true (has_other self.readers seat.number) }
+    // Claimed by the seat for writing, unless another seat holds it.
+    fn claimed(self, seat: Seat) -> Result<Lock, Fault>
+        ensures { row_or_fault result ≡ lock_claimed (row_of self) seat.number }
     {
         match self.writer {
-            None => seat.added_to(self.readers) != seat.bit(),
-            Some(writer) => writer != seat.byte(),
+            None if without_member(self.readers, seat.number) != 0 => Err(Fault::LockInTheWay),
+            Some(writer) if writer != seat.byte() => Err(Fault::LockInTheWay),
+            _ => Ok(Lock {
+                writer: Some(seat.byte()),
+                readers: 0,
+            }),
         }
     }
 
-    fn written_by(seat: Seat) -> Lock
-        ensures writer { result.writer ≡ Some seat.number }
-        ensures readers { result.readers ≡ 0 }
+    // Without the seat.
+    fn released(self, seat: Seat) -> Lock
+        ensures { row_of result ≡ released_row (row_of self) seat.number }
     {
+        if self.writer == Some(seat.byte()) {
+            return Lock {
+                writer: None,
+                readers: 0,
+            };
+        }
         Lock {
-            writer: Some(seat.byte()),
-            readers: 0,
+            writer: self.writer,
+            readers: without_member(self.readers, seat.number),
         }
     }
 }
 
 impl Row {
+    pub(crate) fn is_written_by(self, seat: Seat) -> bool
+        ensures { result ≡ is_writer self seat.number }
+    {
+        self.writer == Some(seat.byte())
+    }
+
+    // For writing or for reading.
+    pub(crate) fn is_held_by(self, seat: Seat) -> bool
+        ensures { result ≡ holds self seat.number }
+    {
+        self.is_written_by(seat) || has_member(self.readers, seat.number)
+    }
+
     // The row with its lock shared with the seat for reading.
     pub(crate) fn shared(self, seat: Seat) -> Result<Row, Fault>
-        ensures { result ≡ share self seat.number }
+        ensures { result ≡ shared_row self seat.number }
     {
         let lock = Lock::of(self).ok_or(Fault::LockInTheWay)?;
-        Ok(lock.shared(seat)?.put(self))
+        Ok(lock.shared(seat)?.row())
     }
 
     // The row with its lock claimed by the seat for writing.
     pub(crate) fn claimed(self, seat: Seat) -> Result<Row, Fault>
-        ensures { result ≡ claim self seat.number }
+        ensures { result ≡ claimed_row self seat.number }
     {
         let lock = Lock::of(self).ok_or(Fault::LockInTheWay)?;
-        if lock.is_held_by_another(seat) {
-            return Err(Fault::LockInTheWay);
-        }
-        Ok(Lock::written_by(seat).put(self))
+        Ok(lock.claimed(seat)?.row())
+    }
+
+    // The row with its lock without the seat.
+    pub(crate) fn released(self, seat: Seat) -> Row
+        requires { IsTrue (is_lock self) }
+        ensures { result ≡ released_row self seat.number }
+    {
+        Lock::of(self).map_or(Row::UNLOCKED, |lock| lock.released(seat).row())
     }
 }

@@ -1,257 +1,286 @@
-ghost use Rattle.std.specs.Prelude.{◌≡◌, ◌<◌, true, false, ◌&&◌, Ok, Err, MatchOption, MatchResult, nat_lt};
-ghost use Rattle.pool.specs.Masks.{has};
-ghost use Rattle.pool.specs.Locks.{holds};
-ghost use Rattle.pool.specs.Checks.{has_seat, passed};
-ghost use Rattle.pool.specs.Tables.{fresh, place_at, row_at};
-ghost use Rattle.pool.specs.Calls.{open_pool, begin, read, write, prepare, vote, decide, abort, finish, close, only_steps, inside, last_value, staged_value};
-ghost use Rattle.pool.specs.Scans.{withdrawn};
-ghost use Rattle.pool.specs.Pools.{at, Makes};
-ghost use Rattle.store.specs.Meaning.{writing};
+ghost use Rattle.std.specs.Prelude.{◌≡◌, ◌<◌, ◌≤◌, true, Ok, Err, IfOk, IfErr, OnOk};
+ghost use Rattle.pool.specs.Tables.{IsSoundTable};
+ghost use Rattle.pool.specs.Withdrawals.{WithdrawsEach};
 
-use crate::checks::{Turn, check};
-use crate::seat::Seat;
-use crate::table::{Place, Table};
+use crate::admission::{Admission, admit};
+use crate::table::{Entry, InnerTable, Seat, SeatStatus};
 use calls::answer::Decision;
+use calls::call::CallName;
 use calls::fault::Fault;
-use calls::state::{State, Step};
+use calls::state::State;
 use rules::house::HouseRule;
 use store::latest::last_version;
 use store::reading::ReadingStore;
-use store::sizes::MOST_ENTRIES;
 use store::version::{LAST_SERIAL, MOST_SEATS, Version};
 use store::writing::WritingStore;
 
-// A store and a house rule, held by value beside a plain table of seats and locks. docs/POOL.md has the calls.
+/// A store and a house rule, held by value beside a plain table of seats and locks. docs/POOL.md has the calls.
 #[derive(Drop)]
-pub struct Pool<S, R> {
+pub struct Pool<S: WritingStore, R: HouseRule> {
     store: S,
     rule: R,
-    table: Table,
+    table: InnerTable,
+    ghost few: { (S.reading store).entries ≤ 64 },
+    ghost sound: { IsSoundTable table },
 }
 
 impl<S: WritingStore, R: HouseRule> Pool<S, R> {
-    // A pool with no seat: it refuses every call until it is opened.
+    ghost use Rattle.pool.specs.Calls.{open_pool, begin, read, write, prepare, decide, abort, finish, close};
+    ghost use Rattle.pool.specs.Calls.{change_state, is_allowed, staged_value};
+    ghost use Rattle.pool.specs.Pools.{IsNew, Performs, KeepsStore, StagesInStore, FinishesInStore, WithdrawsAll};
+    ghost use Rattle.pool.specs.Pools.{state_of, store_of, rule_of, status, is_holder, has_voted, next_of, next_at, vote_under};
+
+    /// A pool with no seat: it refuses every call until it is opened.
     pub fn new(store: S, rule: R) -> Pool<S, R>
-        ensures { (result.store ≡ store) × (result.rule ≡ rule) × (result.table ≡ fresh 0) }
+        ensures { IsNew store rule result }
     {
         Pool {
             store,
             rule,
-            table: Table::fresh(0),
+            table: InnerTable::fresh(0),
         }
     }
 
-    // The store, to look at.
+    /// The store, to look at.
     pub fn store(&self) -> &S
-        ensures { result.now ≡ self.now.store }
+        ensures { result.now ≡ store_of self.now }
     {
         &self.store
     }
 
-    // The state and the serial of a seat; none where there is no such seat.
-    pub fn place(&self, seat: usize) -> Option<Place>
-        ensures { MatchOption result (has_seat self.now.table seat ≡ false) (λ x. (has_seat self.now.table seat ≡ true) × (x ≡ place_at self.now.table seat)) }
+    /// What the pool keeps of a seat; none where there is no such seat.
+    pub fn status(&self, seat: usize) -> Option<SeatStatus>
+        ensures { result ≡ status self.now seat }
     {
         let seat = self.table.seat(seat)?;
-        Some(self.table.places[seat.number])
+        Some(self.table.status(seat))
     }
 
-    // Whether the seat holds the lock of the entry.
+    /// Whether the seat holds the lock of the entry.
     pub fn holds(&self, seat: usize, entry: usize) -> bool
-        ensures { result ≡ (nat_lt seat 16 && nat_lt entry 64 && holds (row_at self.now.table entry) seat) }
+        ensures { result ≡ is_holder self.now seat entry }
     {
-        Seat::new(seat).is_some_and(|seat| entry < MOST_ENTRIES
-            && self.table.rows[entry].is_held_by(seat))
+        match (Seat::new(seat), Entry::new(entry)) {
+            (Some(seat), Some(entry)) => self.table.row(entry).is_held_by(seat),
+            _ => false,
+        }
     }
 
-    // Whether the seat has voted on the entry.
+    /// Whether the seat has voted on the entry.
     pub fn has_voted(&self, seat: usize, entry: usize) -> bool
-        ensures { result ≡ (nat_lt seat 16 && nat_lt entry 64 && has (row_at self.now.table entry).voted seat) }
+        ensures { result ≡ has_voted self.now seat entry }
     {
-        Seat::new(seat).is_some_and(|seat| entry < MOST_ENTRIES
-            && self.table.rows[entry].has_vote_of(seat))
+        match (Seat::new(seat), Entry::new(entry)) {
+            (Some(seat), Some(entry)) => self.table.has_vote(seat, entry),
+            _ => false,
+        }
     }
 
-    // Withdraws all that is staged, keeps the chains and sets every seat idle with serial 0.
+    /// Withdraws all that is staged, keeps the chains and sets every seat idle with serial 0.
     pub fn open(&mut self, seats: usize) -> Result<(), Fault>
-        ensures { Makes S.ReadingStore.reading S.WritingStore.staged self.old (λ s. open_pool s seats) result self.new }
+        ensures opens { Performs self.old (λ s. open_pool s seats) result self.new }
+        ensures memory { OnOk result (WithdrawsAll self.old self.new) }
     {
         if seats < 1 || seats > MOST_SEATS || self.store.entries() == 0 || self.table.seats != 0 {
             return Err(Fault::CannotOpen);
         }
         withdraw_all(&mut self.store);
-        self.table = Table::fresh(seats);
+        self.table = InnerTable::fresh(seats);
         Ok(())
     }
 
+    /// Begins an edit, and answers its serial.
     pub fn begin(&mut self, seat: usize) -> Result<u32, Fault>
-        ensures makes { Makes S.ReadingStore.reading S.WritingStore.staged self.old (λ s. begin s seat) result self.new }
-        ensures store { self.new.store ≡ self.old.store }
+        ensures begins { Performs self.old (λ s. begin s seat) result self.new }
+        ensures store { KeepsStore self.old self.new }
     {
-        let Turn { seat, next } = self.check(Step::Begin, seat)?;
-        let Place { serial, .. } = self.table.places[seat.number];
+        let Admission { seat, next } = self.admit(CallName::Begin, seat)?;
+        let serial = self.table.serial(seat);
         if serial >= LAST_SERIAL {
             return Err(Fault::SerialsUsedUp);
         }
-        self.table.places[seat.number] = Place {
-            state: next,
-            serial: serial + 1,
-        };
+        self.table.set_edit(seat, next, serial + 1);
         Ok(serial + 1)
     }
 
+    /// Reads an entry under a lock shared with other readers. The value is a number of femtoseconds.
     pub fn read(&mut self, seat: usize, entry: usize) -> Result<i64, Fault>
-        ensures makes { Makes S.ReadingStore.reading S.WritingStore.staged self.old (λ s. read s seat entry) result self.new }
-        ensures store { self.new.store ≡ self.old.store }
+        ensures reads { Performs self.old (λ s. read s seat entry) result self.new }
+        ensures store { KeepsStore self.old self.new }
     {
-        let seat = self.check_at(Step::Read, seat, entry)?.seat;
-        let row = self.table.rows[entry].shared(seat)?;
+        let (Admission { seat, .. }, entry) = self.admit_at(CallName::Read, seat, entry)?;
+        let row = self.table.row(entry).shared(seat)?;
         let value = if row.is_written_by(seat) {
             self.staged_version(entry).value
         } else {
-            last_version(&self.store, entry).value
+            last_version(&self.store, entry.number).value
         };
-        self.table.rows[entry] = row;
+        self.table.put_held_row(seat, entry, row);
         Ok(value)
     }
 
+    /// Writes a number of femtoseconds to an entry, under a lock that nobody shares.
     pub fn write(&mut self, seat: usize, entry: usize, value: i64) -> Result<(), Fault>
-        ensures { Makes S.ReadingStore.reading S.WritingStore.staged self.old (λ s. write s seat entry value) result self.new }
+        ensures writes { Performs self.old (λ s. write s seat entry value) result self.new }
+        ensures memory { OnOk result (StagesInStore self.old seat entry value self.new) }
     {
-        let seat = self.check_at(Step::Write, seat, entry)?.seat;
-        let row = self.table.rows[entry].claimed(seat)?;
+        let (Admission { seat, .. }, entry) = self.admit_at(CallName::Write, seat, entry)?;
+        let row = self.table.row(entry).claimed(seat)?;
         let version = Version {
             value,
             seat: seat.byte(),
-            serial: self.table.places[seat.number].serial,
+            serial: self.table.serial(seat),
         };
-        self.store.stage(entry, version)?;
-        self.table.rows[entry] = row;
+        self.store.stage(entry.number, version)?;
+        self.table.put_held_row(seat, entry, row);
         Ok(())
     }
 
+    /// Ends the reading and writing of an edit, and opens its voting.
     pub fn prepare(&mut self, seat: usize) -> Result<(), Fault>
-        ensures makes { Makes S.ReadingStore.reading S.WritingStore.staged self.old (λ s. prepare s seat) result self.new }
-        ensures store { self.new.store ≡ self.old.store }
+        ensures prepares { Performs self.old (λ s. prepare s seat) result self.new }
+        ensures store { KeepsStore self.old self.new }
     {
-        self.step(Step::Prepare, seat)
+        self.change_state(CallName::Prepare, seat)
     }
 
+    /// Votes on an entry that the seat holds, and answers whether the vote is yes.
+    #[inline(always)]
     pub fn vote(&mut self, seat: usize, entry: usize) -> Result<bool, Fault>
-        ensures makes { Makes S.ReadingStore.reading S.WritingStore.staged self.old (λ s. vote (R.HouseRule.allowed self.old.rule) s seat entry) result self.new }
-        ensures store { self.new.store ≡ self.old.store }
+        ensures votes { Performs self.old (λ s. vote_under self.old s seat entry) result self.new }
+        ensures store { KeepsStore self.old self.new }
     {
-        let seat = self.check_at(Step::Vote, seat, entry)?.seat;
-        let row = self.table.rows[entry];
+        let (Admission { seat, .. }, entry) = self.admit_at(CallName::Vote, seat, entry)?;
+        let row = self.table.row(entry);
         if !row.is_held_by(seat) {
             return Err(Fault::NoLock);
         }
-        if row.has_vote_of(seat) {
+        if self.table.has_vote(seat, entry) {
             return Err(Fault::VotedAlready);
         }
         let yes = !row.is_written_by(seat) || self.rule_allows_staged(entry);
-        self.table.rows[entry] = row.voted(seat, yes);
+        self.table.note_vote(seat, entry, yes);
         Ok(yes)
     }
 
+    /// Decides an edit by its votes, and answers how.
     pub fn decide(&mut self, seat: usize) -> Result<Decision, Fault>
-        ensures makes { Makes S.ReadingStore.reading S.WritingStore.staged self.old (λ s. decide s seat) result self.new }
-        ensures store { self.new.store ≡ self.old.store }
+        ensures decides { Performs self.old (λ s. decide s seat) result self.new }
+        ensures store { KeepsStore self.old self.new }
     {
-        let Turn { seat, next } = self.check(Step::Decide, seat)?;
-        if self.table.has_no_of(seat) {
-            self.table.places[seat.number].state = State::Abort;
+        let Admission { seat, next } = self.admit(CallName::Decide, seat)?;
+        if self.table.has_voted_no(seat) {
+            self.table.set_state(seat, State::Abort);
             return Ok(Decision::Abort);
         }
-        if self.table.lacks_vote_of(seat) {
+        if self.table.lacks_vote(seat) {
             return Err(Fault::VotesMissing);
         }
-        self.table.places[seat.number].state = next;
+        self.table.set_state(seat, next);
         Ok(Decision::Commit)
     }
 
+    /// Decides an edit to be aborted, before its votes or after them.
     pub fn abort(&mut self, seat: usize) -> Result<(), Fault>
-        ensures makes { Makes S.ReadingStore.reading S.WritingStore.staged self.old (λ s. abort s seat) result self.new }
-        ensures store { self.new.store ≡ self.old.store }
+        ensures aborts { Performs self.old (λ s. abort s seat) result self.new }
+        ensures store { KeepsStore self.old self.new }
     {
-        self.step(Step::Abort, seat)
+        self.change_state(CallName::Abort, seat)
     }
 
+    /// Publishes or withdraws what a decided edit wrote to an entry, and lets go of the entry.
+    #[inline(always)]
     pub fn finish(&mut self, seat: usize, entry: usize) -> Result<(), Fault>
-        ensures { Makes S.ReadingStore.reading S.WritingStore.staged self.old (λ s. finish s seat entry) result self.new }
+        ensures finishes { Performs self.old (λ s. finish s seat entry) result self.new }
+        ensures memory { OnOk result (FinishesInStore self.old seat entry self.new) }
     {
-        let Turn { seat, next } = self.check_at(Step::Finish, seat, entry)?;
-        let row = self.table.rows[entry];
+        let (Admission { seat, next }, entry) = self.admit_at(CallName::Finish, seat, entry)?;
+        let row = self.table.row(entry);
         if !row.is_held_by(seat) {
             return Err(Fault::NoLock);
         }
-        if row.is_written_by(seat) {
-            match next {
-                State::Commit => self.store.publish(entry)?,
-                _ => self.store.withdraw(entry)?,
-            }
+        if !row.is_written_by(seat) {
+            self.table.put_released_row(seat, entry, row.released(seat));
+            return Ok(());
         }
-        self.table.rows[entry] = row.released(seat);
+        match next {
+            State::Commit => self.store.publish(entry.number)?,
+            _ => self.store.withdraw(entry.number)?,
+        }
+        self.table.put_released_row(seat, entry, row.released(seat));
         Ok(())
     }
 
+    /// Closes a decided edit that holds nothing any more.
     pub fn close(&mut self, seat: usize) -> Result<(), Fault>
-        ensures makes { Makes S.ReadingStore.reading S.WritingStore.staged self.old (λ s. close s seat) result self.new }
-        ensures store { self.new.store ≡ self.old.store }
+        ensures closes { Performs self.old (λ s. close s seat) result self.new }
+        ensures store { KeepsStore self.old self.new }
     {
-        let Turn { seat, next } = self.check(Step::Close, seat)?;
-        if self.table.has_lock_of(seat) {
+        let Admission { seat, next } = self.admit(CallName::Close, seat)?;
+        if self.table.holds_any(seat) {
             return Err(Fault::LocksRemain);
         }
-        self.table.places[seat.number].state = next;
+        self.table.set_state(seat, next);
         Ok(())
     }
 
     // A call that only leads to another state.
-    fn step(&mut self, step: Step, seat: usize) -> Result<(), Fault>
-        ensures makes { Makes S.ReadingStore.reading S.WritingStore.staged self.old (λ s. only_steps step s seat) result self.new }
-        ensures store { self.new.store ≡ self.old.store }
+    fn change_state(&mut self, name: CallName, seat: usize) -> Result<(), Fault>
+        ensures changes { Performs self.old (λ s. change_state name s seat) result self.new }
+        ensures store { KeepsStore self.old self.new }
     {
-        let Turn { seat, next } = self.check(step, seat)?;
-        self.table.places[seat.number].state = next;
+        let Admission { seat, next } = self.admit(name, seat)?;
+        self.table.set_state(seat, next);
         Ok(())
     }
 
     // The checks of a call on no entry.
-    fn check(&self, step: Step, seat: usize) -> Result<Turn, Fault>
-        ensures { MatchResult result (λ turn. (passed self.now.table step seat true ≡ Ok turn.next) × (turn.seat.number ≡ seat)) (λ fault. passed self.now.table step seat true ≡ Err fault) }
+    fn admit(&self, name: CallName, seat: usize) -> Result<Admission, Fault>
+        ensures next { IfOk result (λ found. next_of self.now name seat ≡ Ok found.next) }
+        ensures seat { IfOk result (λ found. found.seat.number ≡ seat) }
+        ensures fault { IfErr result (λ fault. next_of self.now name seat ≡ Err fault) }
     {
-        check(&self.table, step, seat, true)
+        admit(&self.table, name, seat, true)
     }
 
     // The checks of a call on an entry.
-    fn check_at(&self, step: Step, seat: usize, entry: usize) -> Result<Turn, Fault>
-        ensures { MatchResult result (λ turn. (passed self.now.table step seat (inside (at S.ReadingStore.reading S.WritingStore.staged self.now) entry) ≡ Ok turn.next) × (turn.seat.number ≡ seat) × (entry < (S.ReadingStore.reading self.now.store).entries)) (λ fault. passed self.now.table step seat (inside (at S.ReadingStore.reading S.WritingStore.staged self.now) entry) ≡ Err fault) }
+    fn admit_at(
+        &self,
+        name: CallName,
+        seat: usize,
+        entry: usize,
+    ) -> Result<(Admission, Entry), Fault>
+        ensures next { IfOk result (λ found. next_at self.now name seat entry ≡ Ok found.0.next) }
+        ensures seat { IfOk result (λ found. found.0.seat.number ≡ seat) }
+        ensures entry { IfOk result (λ found. found.1.number ≡ entry) }
+        ensures inside { IfOk result (λ _. entry < (S.reading self.now.store).entries) }
+        ensures fault { IfErr result (λ fault. next_at self.now name seat entry ≡ Err fault) }
     {
-        check(&self.table, step, seat, entry < self.store.entries())
+        let found = admit(&self.table, name, seat, entry < self.store.entries())?;
+        Ok((found, Entry { number: entry }))
     }
 
     // The staged version of an entry, or its last where none is staged.
-    fn staged_version(&self, entry: usize) -> Version
-        ensures { result.value ≡ staged_value (at S.ReadingStore.reading S.WritingStore.staged self.now) entry }
+    fn staged_version(&self, entry: Entry) -> Version
+        ensures { result.value ≡ staged_value (state_of self.now) entry.number }
     {
         self.store
-            .staged_at(entry)
-            .unwrap_or_else(|| last_version(&self.store, entry))
+            .staged_at(entry.number)
+            .unwrap_or_else(|| last_version(&self.store, entry.number))
     }
 
-    fn rule_allows_staged(&self, entry: usize) -> bool
-        ensures { result ≡ R.HouseRule.allowed self.now.rule entry (last_value (at S.ReadingStore.reading S.WritingStore.staged self.now) entry) (staged_value (at S.ReadingStore.reading S.WritingStore.staged self.now) entry) }
+    fn rule_allows_staged(&self, entry: Entry) -> bool
+        ensures { result ≡ is_allowed (rule_of self.now) (state_of self.now) entry.number }
     {
-        let last = last_version(&self.store, entry);
+        let last = last_version(&self.store, entry.number);
         let staged = self.staged_version(entry);
-        self.rule.allows(entry, last.value, staged.value)
+        self.rule.allows(entry.number, last.value, staged.value)
     }
 }
 
 // Withdraws all that is staged.
 fn withdraw_all<S: WritingStore>(store: &mut S)
-    ensures { writing S.ReadingStore.reading S.WritingStore.staged store.new ≡ withdrawn (writing S.ReadingStore.reading S.WritingStore.staged store.old) (S.ReadingStore.reading store.old).entries }
+    ensures { WithdrawsEach S.reading S.staged S.withdraw_leaves store.old store.new }
 {
     for e in 0..store.entries() {
         // where nothing is staged there is nothing to withdraw

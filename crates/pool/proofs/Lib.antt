@@ -1,0 +1,4 @@
+pub mod MaskLemmas
+pub mod LockLemmas
+pub mod TableLemmas
+pub mod PoolLemmas
