@@ -1,0 +1,10 @@
+pub mod Replies
+pub mod States
+pub mod Parts
+pub mod Ties
+pub mod Whole
+pub mod Entries
+pub mod Stays
+pub mod Lists
+pub mod Sound
+pub mod Holders
