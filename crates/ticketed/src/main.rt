@@ -10,11 +10,12 @@ use moves::{closed_by_hand, look_and_move, move_slack};
 use pool::pool::Pool;
 use rules::range::RangeRule;
 use std::io;
+use store::laying::LayOut;
 use store::reading::ReadingStore;
 use store::text::chain_text;
 use store::version::OPENING;
 use table::TableStore;
-use tickets::fate::Fate;
+use tickets::outcome::Outcome;
 
 const SEATS: usize = 2;
 
@@ -61,9 +62,9 @@ fn show(rt: &HostRuntime) -> anyhow::Result<()> {
     Ok(())
 }
 
-fn tell(rt: &HostRuntime, moved: Result<Fate, Fault>) -> io::Result<()> {
+fn tell(rt: &HostRuntime, moved: Result<Outcome, Fault>) -> io::Result<()> {
     match moved {
-        Ok(fate) => println!(rt; "{fate}"),
+        Ok(outcome) => println!(rt; "{outcome}"),
         Err(fault) => println!(rt; "{fault}"),
     }
 }

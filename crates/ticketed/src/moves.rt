@@ -5,21 +5,21 @@ use rules::house::HouseRule;
 use store::reading::ReadingStore;
 use store::writing::WritingStore;
 use tickets::edit::{give_up, settle, take};
-use tickets::fate::Fate;
+use tickets::outcome::Outcome;
 
 // Takes an amount from entry 0 and adds it to entry 1, both in one edit; a refusal gives the edit up.
 pub(crate) fn move_slack<S: WritingStore, R: HouseRule>(
     pool: &mut Pool<S, R>,
     seat: usize,
     amount: i64,
-) -> Result<Fate, Fault> {
+) -> Result<Outcome, Fault> {
     let mut ticket = take(pool, seat)?;
     if let Err(fault) = write_both(pool, ticket.seat(), amount) {
         give_up(pool, &mut ticket);
         return Err(fault);
     }
-    let fate = settle(pool, &mut ticket);
-    Ok(fate)
+    let outcome = settle(pool, &mut ticket);
+    Ok(outcome)
 }
 
 fn write_both<S: WritingStore, R: HouseRule>(
@@ -37,7 +37,7 @@ fn write_both<S: WritingStore, R: HouseRule>(
 pub(crate) fn look_and_move<S: WritingStore, R: HouseRule>(
     pool: &mut Pool<S, R>,
     amount: i64,
-) -> (Result<Fate, Fault>, Result<Fate, Fault>) {
+) -> (Result<Outcome, Fault>, Result<Outcome, Fault>) {
     let mut ticket = match take(pool, 1) {
         Ok(ticket) => ticket,
         Err(fault) => return (move_slack(pool, 0, amount), Err(fault)),
@@ -50,7 +50,7 @@ pub(crate) fn look_and_move<S: WritingStore, R: HouseRule>(
 // Someone else aborts and closes the edit: the ticket finds it gone, and is spent all the same.
 pub(crate) fn closed_by_hand<S: WritingStore, R: HouseRule>(
     pool: &mut Pool<S, R>,
-) -> Result<Fate, Fault> {
+) -> Result<Outcome, Fault> {
     let mut ticket = take(pool, 1)?;
     let _ = pool.abort(1);
     let _ = pool.close(1);

@@ -1,3 +1,6 @@
 pub mod Made
-pub mod Freed
+pub mod Others
+pub mod Inside
+pub mod Apart
+pub mod Accepted
 pub mod Ends

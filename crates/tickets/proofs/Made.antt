@@ -1,193 +1,108 @@
--- Lists of calls made one after another, and what a call leaves of the other entries.
-use Rattle.std.proofs.Common.{◌≡◌, ℕ, zero, suc, ◌+◌, ◌≤◌, Bool, true, false, cond, List, [], ◌∷◌, ◌++◌, get_or, set, sym, refl, ap, ◌∙◌, subst, ap₂, add-one, arith, get_or-set_other}
-use Rattle.std.specs.List.{list_any}
+-- Lists of calls that were made on a pool: one list after another, and a call for each entry of a loop.
+use Rattle.std.proofs.Common.{◌≡◌, ℕ, zero, suc, ◌+◌, ◌≤◌, Bool, true, false, cond, List, [], ◌∷◌, ◌++◌, sym, refl, ap, ◌∙◌, subst, ap₂, add-one, arith}
 use Rattle.calls.specs.declared.call.Call.{Call}
-use Rattle.calls.specs.declared.call.Call.TheVariants as C
-use Rattle.calls.specs.declared.state.Step.TheVariants as S
-use Rattle.store.specs.Meaning.{Writing}
-use Rattle.pool.specs.declared.table.Row.{Row}
-use Rattle.pool.specs.Masks.{has}
-use Rattle.pool.specs.Locks.{holds, writes}
-use Rattle.pool.specs.Checks.{passed}
-use Rattle.pool.specs.Scans.{voted_no, is_holder, lacks_vote}
-use Rattle.pool.specs.Tables.{Moment, row_at, unlocked}
-use Rattle.pool.specs.Calls.{Rule, inside, up}
-use Rattle.store.specs.Steps.{spend_answer}
-use Rattle.alone.specs.Runs.{GoesOn, called, after_call}
-use Rattle.alone.proofs.Parts.{by_result, by_test}
-use Rattle.tickets.specs.Lists.{after_calls, answers_of, each}
-use Rattle.tickets.specs.Tickets.{votes, wind_up, conclude, decided_after}
+use Rattle.calls.specs.Answers.{Answer}
+use Rattle.store.specs.declared.reading.ReadingStore as reading_store
+use Rattle.store.specs.declared.writing.WritingStore as writing_store
+use Rattle.rules.specs.declared.house.HouseRule as house_rule
+use Rattle.pool.specs.declared.pool.Pool.{Pool}
+use Rattle.pool.specs.Calls.{Rule, PoolState, state_after, perform}
+use Rattle.pool.specs.Pools.{Performs, LeavesStore, state_of, rule_of}
+use Rattle.runner.specs.Runs.{PerformsEach}
+use Rattle.tickets.specs.Lists.{MakesCalls, state_after_calls, answers_to, calls_for_each}
 
-pub goes_all : (allows : Rule) (s : Moment) (calls : List Call) → GoesOn allows s calls (answers_of allows s calls) (after_calls allows s calls)
-goes_all allows s [] before seats past k = k
-goes_all allows s (c ∷ calls) before seats past k = goes_all allows (after_call allows s c) calls before seats _ (called k c)
-
-pub after-++ : (allows : Rule) (s : Moment) (xs ys : List Call) → after_calls allows s (xs ++ ys) ≡ after_calls allows (after_calls allows s xs) ys
-after-++ allows s [] ys = refl
-after-++ allows s (x ∷ xs) ys = after-++ allows (after_call allows s x) xs ys
-
--- one entry more, by whether it passes the test
-pub each_made : (allows : Rule) (s : Moment) (test : ℕ → Bool) (call : ℕ → Call) (n : ℕ) → test n ≡ true
-    → after_calls allows s (each test call (n + 1)) ≡ after_call allows (after_calls allows s (each test call n)) (call n)
-each_made allows s test call n t =
-    ap (λ (k : ℕ). after_calls allows s (each test call k)) (add-one n)
-    ∙ after-++ allows s (each test call n) (cond (test n) (call n ∷ []) [])
-    ∙ ap (λ (b : Bool). after_calls allows (after_calls allows s (each test call n)) (cond b (call n ∷ []) [])) t
-
-pub each_passed : (allows : Rule) (s : Moment) (test : ℕ → Bool) (call : ℕ → Call) (n : ℕ) → test n ≡ false
-    → after_calls allows s (each test call (n + 1)) ≡ after_calls allows s (each test call n)
-each_passed allows s test call n t =
-    ap (λ (k : ℕ). after_calls allows s (each test call k)) (add-one n)
-    ∙ after-++ allows s (each test call n) (cond (test n) (call n ∷ []) [])
-    ∙ ap (λ (b : Bool). after_calls allows (after_calls allows s (each test call n)) (cond b (call n ∷ []) [])) t
-
-pub each_same : (test test' : ℕ → Bool) (call : ℕ → Call) (n : ℕ) → ((k : ℕ) → test k ≡ test' k) → each test call n ≡ each test' call n
-each_same test test' call zero q = refl
-each_same test test' call (suc n) q = ap₂ (λ (xs : List Call) (b : Bool). xs ++ cond b (call n ∷ []) []) (each_same test test' call n q) (q n)
+pub after-++ : (allows : Rule) (xs ys : List Call) (s : PoolState) → state_after_calls allows (xs ++ ys) s ≡ state_after_calls allows ys (state_after_calls allows xs s)
+after-++ allows [] ys s = refl
+after-++ allows (x ∷ xs) ys s = after-++ allows xs ys (state_after (perform allows x s) s)
 
 -- what stands before and after each call of a list stands after all of them
-pub each_keeps : (allows : Rule) (Q : Moment → Type 0) (s : Moment) (test : ℕ → Bool) (call : ℕ → Call)
-    → ((m : Moment) (k : ℕ) → Q m → Q (after_call allows m (call k))) → Q s → (n : ℕ) → Q (after_calls allows s (each test call n))
-each_keeps allows Q s test call step start zero = start
-each_keeps allows Q s test call step start (suc n) =
-    subst Q (sym (after-++ allows s (each test call n) (cond (test n) (call n ∷ []) []))) (go (test n) (each_keeps allows Q s test call step start n))
+pub each_keeps : (allows : Rule) (Q : PoolState → Type 0) (test : ℕ → Bool) (call : ℕ → Call)
+    → ((m : PoolState) (k : ℕ) → Q m → Q (state_after (perform allows (call k) m) m)) → (n : ℕ) (s : PoolState) → Q s
+    → Q (state_after_calls allows (calls_for_each test call n) s)
+each_keeps allows Q test call step zero s start = start
+each_keeps allows Q test call step (suc n) s start =
+    subst Q (sym (after-++ allows (calls_for_each test call n) (cond (test n) (call n ∷ []) []) s)) (go (test n) _ (each_keeps allows Q test call step n s start))
   where
-    go : (b : Bool) → Q (after_calls allows s (each test call n)) → Q (after_calls allows (after_calls allows s (each test call n)) (cond b (call n ∷ []) []))
-    go true before = step _ n before
-    go false before = before
+    go : (b : Bool) (m : PoolState) → Q m → Q (state_after_calls allows (cond b (call n ∷ []) []) m)
+    go true m before = step m n before
+    go false m before = before
 
--- ------------------------------------------------------------ what a call leaves of the other entries
+pub each_same : (test other : ℕ → Bool) (call : ℕ → Call) (n : ℕ) → ((k : ℕ) → test k ≡ other k) → calls_for_each test call n ≡ calls_for_each other call n
+each_same test other call zero q = refl
+each_same test other call (suc n) q = ap₂ (λ (xs : List Call) (b : Bool). xs ++ cond b (call n ∷ []) []) (each_same test other call n q) (q n)
 
--- the row of one entry is as it was
-abbrev pub RowAs : Moment → ℕ → Moment → Type 0
-RowAs s k m = row_at m.table k ≡ row_at s.table k
+-- a call on an entry leaves what the test says of the others
+abbrev pub LeavesOthers : (PoolState → ℕ → Bool) → (ℕ → Call) → Type 0
+LeavesOthers test call = (allows : Rule) (m : PoolState) (n k : ℕ) → (k ≡ n → ⊥) → test (state_after (perform allows (call n) m) m) k ≡ test m k
 
--- a vote and a finish leave the rows of the other entries
-pub vote_elsewhere : (allows : Rule) (s : Moment) (p e k : ℕ) → (k ≡ e → ⊥) → RowAs s k (after_call allows s (C.Vote p e))
-vote_elsewhere allows s p e k apart =
-    by_result s (RowAs s k) refl (passed s.table S.Vote p (inside s e)) _ (λ _ _.
-    by_test s (RowAs s k) refl (holds (row_at s.table e) p) _ _
-    (λ _. by_test s (RowAs s k) refl (has (row_at s.table e).voted p) _ _ (λ _. refl) (λ _. get_or-set_other s.table.rows e k _ unlocked apart))
-    (λ _. refl))
+module _ {S R : Type 0} {w : writing_store.Ghosts S} {s : reading_store.Ghosts S} {r : house_rule.Ghosts R} where
+  -- ------------------------------------------------------------ what calls that were made leave and answer
 
-pub finish_elsewhere : (allows : Rule) (s : Moment) (p e k : ℕ) → (k ≡ e → ⊥) → RowAs s k (after_call allows s (C.Finish p e))
-finish_elsewhere allows s p e k apart =
-    by_result s (RowAs s k) refl (passed s.table S.Finish p (inside s e)) _ (λ _ _.
-    by_test s (RowAs s k) refl (holds (row_at s.table e) p) _ _
-    (λ _. by_test s (RowAs s k) refl (writes (row_at s.table e) p) _ _
-    (λ _. by_result s (RowAs s k) refl (up (spend_answer s.store e)) _ (λ _ _. get_or-set_other s.table.rows e k _ unlocked apart))
-    (λ _. get_or-set_other s.table.rows e k _ unlocked apart))
-    (λ _. refl))
+  pub each_leaves : (old new : Pool S R w s r) (calls : List Call) (answers : List Answer) → PerformsEach old calls answers new
+      → (state_of new ≡ state_after_calls (rule_of old) calls (state_of old)) × (answers ≡ answers_to (rule_of old) calls (state_of old)) × (new.rule ≡ old.rule)
+  each_leaves old new [] [] e = (ap (λ (x : Pool S R w s r). state_of x) e, refl, ap (λ (x : Pool S R w s r). x.rule) e)
+  each_leaves old new [] (b ∷ answers) e = absurd e
+  each_leaves old new (c ∷ calls) [] e = absurd e
+  each_leaves old new (c ∷ calls) (b ∷ answers) e =
+      let rest = each_leaves e.0 new calls answers e.3 in
+      let rule : rule_of e.0 ≡ rule_of old = ap r.allowed e.1.rule in (
+        rest.0 ∙ ap₂ (λ (f : Rule) (m : PoolState). state_after_calls f calls m) rule e.1.leaves,
+        ap₂ (λ (x : Answer) (xs : List Answer). x ∷ xs) e.1.answers (rest.1 ∙ ap₂ (λ (f : Rule) (m : PoolState). answers_to f calls m) rule e.1.leaves),
+        rest.2 ∙ e.1.rule,
+      )
 
--- ------------------------------------------------------------ a loop over the entries
+  pub makes_rule : {old new : Pool S R w s r} {calls : List Call} → MakesCalls old calls new → rule_of new ≡ rule_of old
+  makes_rule {old} {new} {calls} m = ap r.allowed (each_leaves old new calls m.answers m.performs).2
 
--- the calls on the entries below n were made from s, and the rows from n on are as they were
-module _ (allows : Rule) (s : Moment) (q : Row → Bool) (call : ℕ → Call) (n : ℕ) (m : Moment)
-    (made : m ≡ after_calls allows s (each (λ k. q (row_at s.table k)) call n))
-    (rows : (k : ℕ) → n ≤ k → RowAs s k m) where
-  pub more_made : (rule : Rule) (now : Moment) → rule ≡ allows → q (row_at m.table n) ≡ true → now ≡ after_call rule m (call n)
-      → ((k : ℕ) → (k ≡ n → ⊥) → RowAs m k (after_call rule m (call n)))
-      → (now ≡ after_calls allows s (each (λ k. q (row_at s.table k)) call (n + 1))) × ((k : ℕ) → n + 1 ≤ k → RowAs s k now)
-  more_made rule now same t e elsewhere = (
-    e ∙ ap₂ (λ (f : Rule) (x : Moment). after_call f x (call n)) same made
-        ∙ sym (each_made allows s (λ k. q (row_at s.table k)) call n (ap q (sym (rows n (omega arith))) ∙ t)),
-    (λ k l. ap (λ (x : Moment). row_at x.table k) e ∙ elsewhere k (λ r. omega arith) ∙ rows k (omega arith)),
-  )
+  pub makes_state : {old new : Pool S R w s r} {calls : List Call} → MakesCalls old calls new → state_of new ≡ state_after_calls (rule_of old) calls (state_of old)
+  makes_state {old} {new} {calls} m = (each_leaves old new calls m.answers m.performs).0
 
-  pub more_passed : q (row_at m.table n) ≡ false
-      → (m ≡ after_calls allows s (each (λ k. q (row_at s.table k)) call (n + 1))) × ((k : ℕ) → n + 1 ≤ k → RowAs s k m)
-  more_passed t = (
-    made ∙ sym (each_passed allows s (λ k. q (row_at s.table k)) call n (ap q (sym (rows n (omega arith))) ∙ t)),
-    (λ k l. rows k (omega arith)),
-  )
+  -- ------------------------------------------------------------ one list after another
 
--- ------------------------------------------------------------ calls that leave the lists of later ones as they are
+  performs-++ : (old mid new : Pool S R w s r) (xs ys : List Call) (before after : List Answer) → PerformsEach old xs before mid → PerformsEach mid ys after new
+      → PerformsEach old (xs ++ ys) (before ++ after) new
+  performs-++ old mid new [] ys [] after e f = subst (λ (x : Pool S R w s r). PerformsEach x ys after new) e f
+  performs-++ old mid new [] ys (b ∷ before) after e f = absurd e
+  performs-++ old mid new (x ∷ xs) ys [] after e f = absurd e
+  performs-++ old mid new (x ∷ xs) ys (b ∷ before) after e f = (e.0, e.1, e.2, performs-++ e.0 mid new xs ys before after e.3 f)
 
--- rows and store as they were
-abbrev pub Beside : Moment → Moment → Type 0
-Beside s m = (m.table.rows ≡ s.table.rows) × (m.store ≡ s.store)
+  pub makes_none : {old : Pool S R w s r} → MakesCalls old [] old
+  makes_none = record { answers = []; performs = refl }
 
-pub prepare_beside : (allows : Rule) (s : Moment) (p : ℕ) → Beside s (after_call allows s (C.Prepare p))
-prepare_beside allows s p = by_result s (Beside s) (refl, refl) (passed s.table S.Prepare p true) _ (λ _ _. (refl, refl))
+  pub makes_one : {old new : Pool S R w s r} (call : Call) {answer : Answer} → Performs old (perform (rule_of old) call) answer new → LeavesStore old call answer new
+      → MakesCalls old (call ∷ []) new
+  makes_one {old} {new} call {answer} p l = record { answers = answer ∷ []; performs = (new, p, l, refl) }
 
-pub abort_beside : (allows : Rule) (s : Moment) (p : ℕ) → Beside s (after_call allows s (C.Abort p))
-abort_beside allows s p = by_result s (Beside s) (refl, refl) (passed s.table S.Abort p true) _ (λ _ _. (refl, refl))
+  pub makes-++ : {old mid new : Pool S R w s r} (xs ys : List Call) → MakesCalls old xs mid → MakesCalls mid ys new → MakesCalls old (xs ++ ys) new
+  makes-++ {old} {mid} {new} xs ys m n =
+      record { answers = m.answers ++ n.answers; performs = performs-++ old mid new xs ys m.answers n.answers m.performs n.performs }
 
-pub decide_beside : (allows : Rule) (s : Moment) (p : ℕ) → Beside s (after_call allows s (C.Decide p))
-decide_beside allows s p =
-    by_result s (Beside s) (refl, refl) (passed s.table S.Decide p true) _ (λ _ _.
-    by_test s (Beside s) (refl, refl) (list_any (voted_no p) s.table.rows) _ _
-    (λ _. (refl, refl))
-    (λ _. by_test s (Beside s) (refl, refl) (list_any (lacks_vote p) s.table.rows) _ _ (λ _. (refl, refl)) (λ _. (refl, refl))))
+  -- ------------------------------------------------------------ a loop over the entries
 
-pub votes_beside : (s m : Moment) (p : ℕ) → Beside s m → votes m p ≡ votes s p
-votes_beside s m p b =
-    ap₂ (λ (rows : List Row) (store : Writing). each (λ e. lacks_vote p (get_or rows e unlocked)) (λ e. C.Vote p e) store.reading.entries) b.0 b.1
+  -- a call was made for each entry below n that passed the test, and what the test says of the entries from n on is as it was
+  module _ (test : PoolState → ℕ → Bool) (call : ℕ → Call) where
+    pub record CallsBelow (old : Pool S R w s r) (n : ℕ) (new : Pool S R w s r) : Type 0 where
+      pub made : MakesCalls old (calls_for_each (test (state_of old)) call n) new
+      pub rest : (k : ℕ) → n ≤ k → test (state_of new) k ≡ test (state_of old) k
 
-pub wind_up_beside : (s m : Moment) (p : ℕ) → Beside s m → wind_up m p ≡ wind_up s p
-wind_up_beside s m p b =
-    ap₂ (λ (rows : List Row) (store : Writing). each (λ e. is_holder p (get_or rows e unlocked)) (λ e. C.Finish p e) store.reading.entries ++ C.Close p ∷ []) b.0 b.1
+    pub start_loop : (old : Pool S R w s r) → CallsBelow old 0 old
+    start_loop old = record { made = makes_none; rest = λ _ _. refl }
 
-pub conclude_beside : (s m : Moment) (p : ℕ) → Beside s m → conclude m p ≡ conclude s p
-conclude_beside s m p b = ap₂ (λ (xs ys : List Call). xs ++ C.Decide p ∷ ys) (votes_beside s m p b) (wind_up_beside s m p b)
+    grown : (old mid new : Pool S R w s r) (n : ℕ) (b : Bool) → CallsBelow old n mid → test (state_of mid) n ≡ b → MakesCalls mid (cond b (call n ∷ []) []) new
+        → MakesCalls old (calls_for_each (test (state_of old)) call (n + 1)) new
+    grown old mid new n b below q m =
+        subst (λ (calls : List Call). MakesCalls old calls new)
+        (ap (λ (b : Bool). calls_for_each (test (state_of old)) call n ++ cond b (call n ∷ []) []) (sym q ∙ below.rest n (omega arith))
+        ∙ sym (ap (calls_for_each (test (state_of old)) call) (add-one n)))
+        (makes-++ (calls_for_each (test (state_of old)) call n) (cond b (call n ∷ []) []) below.made m)
 
--- a field of an element of a list after a set that leaves the field of its own element
-set_kept : {A B : Type 0} (f : A → B) (xs : List A) (i j : ℕ) (x d : A) → f x ≡ f (get_or xs i d) → f (get_or (set xs i x) j d) ≡ f (get_or xs j d)
-set_kept f [] i j x d q = refl
-set_kept f (a ∷ xs) zero zero x d q = q
-set_kept f (a ∷ xs) zero (suc j) x d q = refl
-set_kept f (a ∷ xs) (suc i) zero x d q = refl
-set_kept f (a ∷ xs) (suc i) (suc j) x d q = set_kept f xs i j x d q
+    pub call_made : {old mid new now : Pool S R w s r} (n : ℕ) → LeavesOthers test call → CallsBelow old n mid → test (state_of mid) n ≡ true → {answer : Answer}
+        → Performs mid (perform (rule_of mid) (call n)) answer new → LeavesStore mid (call n) answer new → now ≡ new → CallsBelow old (n + 1) now
+    call_made {old} {mid} {new} n others below q p l e = subst (CallsBelow old (n + 1)) (sym e) record {
+      made = grown old mid new n true below q (makes_one (call n) p l);
+      rest = λ k i. ap (λ (m : PoolState). test m k) p.leaves ∙ others (rule_of mid) (state_of mid) n k (λ e. omega arith) ∙ below.rest k (omega arith);
+    }
 
--- what the seat holds, and the store, as they were
-abbrev pub Holding : ℕ → Moment → Moment → Type 0
-Holding p s m = ((k : ℕ) → is_holder p (row_at m.table k) ≡ is_holder p (row_at s.table k)) × (m.store ≡ s.store)
-
-vote_holding : (allows : Rule) (s : Moment) (p e : ℕ) → Holding p s (after_call allows s (C.Vote p e))
-vote_holding allows s p e =
-    by_result s (Holding p s) ((λ _. refl), refl) (passed s.table S.Vote p (inside s e)) _ (λ _ _.
-    by_test s (Holding p s) ((λ _. refl), refl) (holds (row_at s.table e) p) _ _
-    (λ _. by_test s (Holding p s) ((λ _. refl), refl) (has (row_at s.table e).voted p) _ _ (λ _. ((λ _. refl), refl))
-    (λ _. ((λ k. set_kept (λ r. holds r p) s.table.rows e k _ unlocked refl), refl)))
-    (λ _. ((λ _. refl), refl)))
-
-pub votes_holding : (allows : Rule) (s : Moment) (p : ℕ) → Holding p s (after_calls allows s (votes s p))
-votes_holding allows s p =
-    each_keeps allows (Holding p s) s _ _
-    (λ m k h. let v = vote_holding allows m p k in ((λ j. v.0 j ∙ h.0 j), v.1 ∙ h.1))
-    ((λ _. refl), refl) s.store.reading.entries
-
-pub wind_up_holding : (s m : Moment) (p : ℕ) → Holding p s m → wind_up m p ≡ wind_up s p
-wind_up_holding s m p h =
-    ap (λ (xs : List Call). xs ++ C.Close p ∷ [])
-    (ap (λ (store : Writing). each (λ e. is_holder p (row_at m.table e)) (λ e. C.Finish p e) store.reading.entries) h.1
-    ∙ each_same (λ e. is_holder p (row_at m.table e)) (λ e. is_holder p (row_at s.table e)) (λ e. C.Finish p e) s.store.reading.entries h.0)
-
--- ------------------------------------------------------------ calls after calls, on a pool that keeps its house rule
-
-pub then_calls : (allows rule : Rule) → rule ≡ allows → (s m now : Moment) (xs ys : List Call)
-    → m ≡ after_calls allows s xs → now ≡ after_calls rule m ys → now ≡ after_calls allows s (xs ++ ys)
-then_calls allows rule same s m now xs ys a b = b ∙ ap₂ (λ (f : Rule) (x : Moment). after_calls f x ys) same a ∙ sym (after-++ allows s xs ys)
-
-pub conclude_made : (allows rule last : Rule) → rule ≡ allows → last ≡ allows → (s voted decided now : Moment) (p : ℕ)
-    → voted ≡ after_calls allows s (votes s p) → decided ≡ after_call rule voted (C.Decide p) → now ≡ after_calls last decided (wind_up decided p)
-    → now ≡ after_calls allows s (conclude s p)
-conclude_made allows rule last same same' s voted decided now p a b d =
-    let x : Moment = after_calls allows s (votes s p) in
-    let y : Moment = after_call allows x (C.Decide p) in
-    let e : decided ≡ y = b ∙ ap₂ (λ (f : Rule) (m : Moment). after_call f m (C.Decide p)) same a in
-    d ∙ ap₂ (λ (f : Rule) (m : Moment). after_calls f m (wind_up m p)) same' e
-    ∙ ap (after_calls allows y) (wind_up_beside x y p (decide_beside allows x p) ∙ wind_up_holding s x p (votes_holding allows s p))
-    ∙ sym (after-++ allows s (votes s p) (C.Decide p ∷ wind_up s p))
-
-pub prepare_made : (allows rule : Rule) → rule ≡ allows → (s prepared now : Moment) (p : ℕ)
-    → prepared ≡ after_call allows s (C.Prepare p) → now ≡ after_calls rule prepared (conclude prepared p) → now ≡ after_calls allows s (C.Prepare p ∷ conclude s p)
-prepare_made allows rule same s prepared now p a b =
-    b ∙ ap₂ (λ (f : Rule) (m : Moment). after_calls f m (conclude m p)) same a
-    ∙ ap (after_calls allows (after_call allows s (C.Prepare p))) (conclude_beside s (after_call allows s (C.Prepare p)) p (prepare_beside allows s p))
-
-pub prepare_fate : (allows rule : Rule) → rule ≡ allows → (s prepared : Moment) (p : ℕ)
-    → prepared ≡ after_call allows s (C.Prepare p) → decided_after rule prepared p (votes prepared p) ≡ decided_after allows s p (C.Prepare p ∷ votes s p)
-prepare_fate allows rule same s prepared p a =
-    ap₂ (λ (f : Rule) (m : Moment). decided_after f m p (votes m p)) same a
-    ∙ ap (decided_after allows (after_call allows s (C.Prepare p)) p) (votes_beside s (after_call allows s (C.Prepare p)) p (prepare_beside allows s p))
+    pub call_passed : {old mid now : Pool S R w s r} (n : ℕ) → CallsBelow old n mid → test (state_of mid) n ≡ false → now ≡ mid → CallsBelow old (n + 1) now
+    call_passed {old} {mid} n below q e =
+        subst (CallsBelow old (n + 1)) (sym e) record { made = grown old mid mid n false below q makes_none; rest = λ k i. below.rest k (omega arith) }

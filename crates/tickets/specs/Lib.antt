@@ -1,3 +1,4 @@
 pub mod Lists
 pub mod Tickets
+pub mod Endings
 pub mod Texts

@@ -2,6 +2,7 @@
 #![tactic(auto)]
 
 pub mod edit;
-pub mod fate;
-mod rest;
+pub mod ending;
+mod open_edit;
+pub mod outcome;
 pub mod ticket;

@@ -1,19 +1,28 @@
-use Rattle.std.proofs.Common.{ℕ, ◌∙◌, ap₂}
-use Rattle.calls.specs.declared.state.State.{State}
-use Rattle.pool.specs.Calls.{Rule}
-use Rattle.pool.specs.Pools.{at}
-use Rattle.pool.specs.Tables.{Moment}
-use Rattle.tickets.specs.Lists.{after_calls}
-use Rattle.tickets.specs.Tickets.{settling, settled}
-use Rattle.tickets.proofs.Ends.{settle_ended}
+use Rattle.std.proofs.Common.{List, refl, ap₂, ◌∙◌, subst}
+use Rattle.calls.specs.declared.call.Call.{Call}
+use Rattle.pool.specs.Pools.{state_of, rule_of}
+use Rattle.tickets.specs.Lists.{MakesCalls}
+use Rattle.tickets.specs.Endings.{settling_calls, settling_outcome}
+use Rattle.tickets.proofs.Accepted.{settling_leads}
+use Rattle.tickets.proofs.Ends.{ends, ends_gone}
 use Rattle.tickets.proofs.edit.settle.Goals as goal
 
-pub returns-in-Some-clause-ended : goal.returns-in-Some-clause-ended
-returns-in-Some-clause-ended g c =
-    let moment = at g.S.ReadingStore.reading g.S.WritingStore.staged in
-    let allows : Rule = g.R.HouseRule.allowed c.args.pool.now.rule in
-    let s : Moment = moment c.args.pool.now in
+pub returns-in-Some-clause-ends : goal.returns-in-Some-clause-ends
+returns-in-Some-clause-ends g c =
+    let old = c.args.pool.now in
+    let ticket = c.args.ticket.now in
     let found = c.in-Some.ensures in
-    settle_ended allows s c.args.ticket.now.seat c.args.ticket.now.serial (moment c.settle.new.pool) c.settle.result
-    (c.settle.ensures.called.leaves ∙ ap₂ (λ (p : ℕ) (q : State). after_calls allows s (settling s p q)) found.0 found.1)
-    (c.settle.ensures.answers ∙ ap₂ (λ (p : ℕ) (q : State). settled allows s p q) found.0 found.1)
+    ends old ticket (settling_calls (state_of old) ticket.seat) (settling_outcome old ticket.seat) refl refl
+    (λ initial seats few q live a. settling_leads (rule_of old) initial seats few ticket.seat q (state_of old) live a)
+    c.settle.result
+    (subst (λ (calls : List Call). MakesCalls old calls c.settle.new.pool) (ap₂ (settling_calls (state_of old)) found.seat found.edit) c.settle.ensures.calls)
+    (c.settle.ensures.outcome ∙ ap₂ (settling_outcome old) found.seat found.edit)
+    c.settle.ensures.gone
+
+pub returns-in-None-clause-ends : goal.returns-in-None-clause-ends
+returns-in-None-clause-ends g c =
+    let old = c.args.pool.now in
+    let ticket = c.args.ticket.now in
+    ends_gone old ticket (settling_calls (state_of old) ticket.seat) (settling_outcome old ticket.seat) refl refl
+    (λ initial seats few q live a. settling_leads (rule_of old) initial seats few ticket.seat q (state_of old) live a)
+    c.in-None.ensures.none
