@@ -2,69 +2,108 @@
 use Rattle.std.specs.Prelude.{◌≡◌, ℕ, ◌+◌, ◌<◌, ◌≤◌, zero, suc, ◌⊎◌, List, [], ◌∷◌, length}
 use Rattle.calls.specs.declared.call.Call.{Call}
 use Rattle.words.specs.Lines.{Begins}
-use Rattle.words.specs.declared.fault.WordFault.TheVariants as W
-use Rattle.session_lines.specs.Grammar.{InReach, HasFault}
-use Rattle.session_lines.specs.Calls.{CallLine, DerivesCall}
-use Rattle.session_lines.specs.Sizes.{SizesLine, DerivesSizes}
+use Rattle.words.specs.declared.fault.WordFault.TheVariants.{LineForm}
+use Rattle.session_lines.specs.Grammar.{Strictness, InReach, FaultOf}
+use Rattle.session_lines.specs.Calls.{CallLine}
+use Rattle.session_lines.specs.Sizes.{SizesLine}
 use Rattle.session_lines.specs.Timescales.{TimescaleLine}
 use Rattle.session_lines.specs.declared.fault.Cause.{Cause}
 use Rattle.session_lines.specs.declared.fault.Cause.TheVariants.{Word, Line}
-use Rattle.session_lines.specs.declared.fault.LineFault.TheVariants.{Words}
+use Rattle.session_lines.specs.declared.fault.LineFault.TheVariants.{WrongWords}
+use Rattle.session_lines.specs.declared.fault.SessionFault.{SessionFault}
 use Rattle.session_lines.specs.declared.sizes.Sizes.{Sizes}
 use Rattle.session_lines.specs.declared.timescale.Timescale.{Timescale}
+use Rattle.session_file.specs.declared.session.LineCall.{LineCall}
 
--- the first line of a text is such a line, and this rest follows it
-abbrev pub First : (List ℕ → Type 0) → List ℕ → List ℕ → Type 0
-First Such rest text = (line : List ℕ) × Begins line rest text × Such line
+-- in bytes
+abbrev pub longest_file : ℕ
+longest_file = 65536
 
--- a text derives calls: an empty one none, another a call on its first line and the other calls behind it
-abbrev pub CallLines : Timescale → List Call → List ℕ → Type 0
-CallLines t [] text = text ≡ []
-CallLines t (call ∷ calls) text = (rest : List ℕ) × First (λ line. CallLine InReach t line call) rest text × CallLines t calls rest
+-- lines are numbered from 1
+abbrev pub timescale_line : ℕ
+timescale_line = 1
 
--- a file derives a session: a timescale on its first line, sizes on the second, and calls behind them
-abbrev pub Derives : List ℕ → Timescale → Sizes → List Call → Type 0
-Derives file t sizes calls =
-    (behind_first : List ℕ) × (behind_second : List ℕ) × (length file ≤ 65536)
-    × First (λ line. TimescaleLine line t) behind_first file
-    × First (λ line. SizesLine InReach line sizes) behind_second behind_first
-    × CallLines t calls behind_second
+abbrev pub sizes_line : ℕ
+sizes_line = 2
 
--- a text begins with no line, or with one that has such a fault
-abbrev pub FirstIsFaulty : (List ℕ → Cause → Type 0) → List ℕ → Cause → Type 0
-FirstIsFaulty Fault text cause =
-    ((cause ≡ Word W.Line) × ((line rest : List ℕ) → Begins line rest text → ⊥))
-    ⊎ ((rest : List ℕ) × First (λ line. Fault line cause) rest text)
+abbrev pub first_call_line : ℕ
+first_call_line = 3
 
-abbrev pub TimescaleFault : List ℕ → Cause → Type 0
-TimescaleFault line cause = (cause ≡ Line Words) × ((t : Timescale) → TimescaleLine line t → ⊥)
+-- what lines derive a thing, read so strictly
+abbrev pub Reading : Type 0 → Type 1
+Reading A = List ℕ → Strictness → A → Type 0
 
--- a file is too long, or its first line is at fault
-abbrev pub FirstPartFault : List ℕ → Cause → Type 0
-FirstPartFault file cause =
-    ((65536 < length file) × (cause ≡ Word W.Line))
-    ⊎ ((length file ≤ 65536) × FirstIsFaulty TimescaleFault file cause)
+-- a text begins with a line that derives such a thing, and this rest follows it
+abbrev pub BeginsWith : {A : Type 0} → Reading A → A → List ℕ → List ℕ → Type 0
+BeginsWith Derives thing rest text =
+    (line : List ℕ) × Begins line rest text × Derives line InReach thing
 
--- behind the first line nothing follows, or a line that is at fault
-abbrev pub SecondPartFault : List ℕ → Cause → Type 0
-SecondPartFault text cause =
-    ((text ≡ []) × (cause ≡ Line Words))
-    ⊎ ((0 < length text) × FirstIsFaulty (λ line. HasFault (DerivesSizes line)) text cause)
+-- a text begins with no line, or with one that derives no such thing
+abbrev pub BeginsAmiss : {A : Type 0} → Reading A → List ℕ → Cause → Type 0
+BeginsAmiss Derives text cause =
+    ((cause ≡ Word LineForm) × ((line rest : List ℕ) → Begins line rest text → ⊥))
+    ⊎ ((rest : List ℕ) × (line : List ℕ) × Begins line rest text × FaultOf (Derives line) cause)
 
-abbrev pub NextCallFault : Timescale → List ℕ → Cause → Type 0
-NextCallFault t text cause = FirstIsFaulty (λ line. HasFault (DerivesCall t line)) text cause
+-- a text derives calls, from a line of this number on: an empty one none, another a call on its first line and the other
+-- calls behind it
+abbrev pub CallLines : Timescale → ℕ → List LineCall → List ℕ → Type 0
+CallLines _ _ [] text = text ≡ []
+CallLines timescale line (call ∷ calls) text =
+    (rest : List ℕ) × BeginsWith (CallLine timescale) call.call rest text × (call.line ≡ line)
+    × CallLines timescale (line + 1) calls rest
 
 -- behind so many lines that are calls there is one that is at fault
-abbrev pub CallsFault : Timescale → ℕ → List ℕ → Cause → Type 0
-CallsFault t zero text cause = (0 < length text) × NextCallFault t text cause
-CallsFault t (suc good) text cause = (call : Call) × (rest : List ℕ) × First (λ line. CallLine InReach t line call) rest text × CallsFault t good rest cause
+abbrev pub CallsFault : Timescale → ℕ → ℕ → List ℕ → SessionFault → Type 0
+CallsFault timescale line zero text fault =
+    (fault.line ≡ line) × (0 < length text) × BeginsAmiss (CallLine timescale) text fault.cause
+CallsFault timescale line (suc good) text fault =
+    (call : Call) × (rest : List ℕ) × BeginsWith (CallLine timescale) call rest text
+    × CallsFault timescale (line + 1) good rest fault
+
+abbrev pub FaultOfCalls : Timescale → ℕ → List ℕ → SessionFault → Type 0
+FaultOfCalls timescale line text fault = (good : ℕ) × CallsFault timescale line good text fault
+
+-- a file is short enough, and its first line derives a timescale
+abbrev pub HasTimescale : List ℕ → Timescale → List ℕ → Type 0
+HasTimescale file timescale rest =
+    (length file ≤ longest_file) × BeginsWith TimescaleLine timescale rest file
+
+-- and its second line derives sizes
+abbrev pub HasHeader : List ℕ → Timescale → Sizes → List ℕ → Type 0
+HasHeader file timescale sizes rest =
+    (behind : List ℕ) × HasTimescale file timescale behind × BeginsWith SizesLine sizes rest behind
+
+-- a file derives a session: a timescale on its first line, sizes on the second, and calls behind them
+abbrev pub Derives : List ℕ → Timescale → Sizes → List LineCall → Type 0
+Derives file timescale sizes calls =
+    (rest : List ℕ) × HasHeader file timescale sizes rest
+    × CallLines timescale first_call_line calls rest
+
+-- a file is too long, or its first line is at fault
+abbrev pub TimescaleFault : List ℕ → Cause → Type 0
+TimescaleFault file cause =
+    ((longest_file < length file) × (cause ≡ Word LineForm))
+    ⊎ ((length file ≤ longest_file) × BeginsAmiss TimescaleLine file cause)
+
+-- behind the first line nothing follows, or a line that is at fault
+abbrev pub SizesFault : List ℕ → Cause → Type 0
+SizesFault text cause =
+    ((text ≡ []) × (cause ≡ Line WrongWords))
+    ⊎ ((0 < length text) × BeginsAmiss SizesLine text cause)
+
+abbrev pub SizesFaultOf : List ℕ → Cause → Type 0
+SizesFaultOf file cause =
+    (timescale : Timescale) × (rest : List ℕ) × HasTimescale file timescale rest
+    × SizesFault rest cause
+
+abbrev pub CallsFaultOf : List ℕ → SessionFault → Type 0
+CallsFaultOf file fault =
+    (timescale : Timescale) × (sizes : Sizes) × (rest : List ℕ)
+    × HasHeader file timescale sizes rest × FaultOfCalls timescale first_call_line rest fault
 
 -- the first line of a file that is at fault: the first; the second, behind a timescale; or one behind sizes and some calls
-abbrev pub FirstFault : List ℕ → ℕ → Cause → Type 0
-FirstFault file line cause =
-    ((line ≡ 1) × FirstPartFault file cause)
-    ⊎ (((line ≡ 2) × ((t : Timescale) × (rest : List ℕ) × (length file ≤ 65536) × First (λ line. TimescaleLine line t) rest file × SecondPartFault rest cause))
-    ⊎ ((good : ℕ) × (t : Timescale) × (sizes : Sizes) × (behind_first : List ℕ) × (behind_second : List ℕ) × (line ≡ 3 + good) × (length file ≤ 65536)
-    × First (λ line. TimescaleLine line t) behind_first file
-    × First (λ line. SizesLine InReach line sizes) behind_second behind_first
-    × CallsFault t good behind_second cause))
+abbrev pub FirstFault : List ℕ → SessionFault → Type 0
+FirstFault file fault =
+    ((fault.line ≡ timescale_line) × TimescaleFault file fault.cause)
+    ⊎ (((fault.line ≡ sizes_line) × SizesFaultOf file fault.cause)
+    ⊎ CallsFaultOf file fault)

@@ -1,2 +1,2 @@
 pub mod Files
-pub mod Reads
+pub mod Sessions

@@ -3,5 +3,3 @@
 
 mod parts;
 pub mod session;
-#[cfg(test)]
-mod tests;

@@ -1,93 +1,55 @@
-ghost use Rattle.std.specs.Prelude.{◌≡◌, List, Some, MatchResult, codes};
-ghost use Rattle.calls.specs.declared.call.Call.{Call};
-ghost use Rattle.session_lines.specs.declared.sizes.Sizes.{Sizes};
-ghost use Rattle.session_lines.specs.declared.timescale.Timescale.{Timescale};
-ghost use Rattle.session_file.specs.Files.{CallLines, Derives, FirstFault};
-ghost use Rattle.session_file.specs.Reads.{Stopped, FaultOfCalls, error_text};
-ghost use Rattle.session_file.specs.declared.session.ReadError.TheVariants.{Fault, NoMemory};
+ghost use Rattle.std.specs.Prelude.{MatchResult, IfOk, IfErr};
+ghost use Rattle.calls.specs.Failures.{IfRefused};
+ghost use Rattle.session_file.specs.Files.{CallLines, FaultOfCalls, FirstFault, first_call_line};
+ghost use Rattle.session_file.specs.Sessions.{DerivesSession, ReadsOnly};
 
-use crate::parts::{read_first, read_next, read_second};
+use crate::parts::{call_part, on_line, sizes_part, timescale_part};
 use calls::call::Call;
+use calls::failure::Failure;
 use session_lines::fault::SessionFault;
 use session_lines::sizes::Sizes;
 use session_lines::timescale::Timescale;
-use std::alloc::{AllocError, AllocFailed, Global};
-use std::error::Error;
-use std::fmt;
+use std::alloc::Global;
 
-// The most bytes that a session file may have.
+/// The most bytes that a session file may have.
 pub const LONGEST_FILE: usize = 65_536;
 
-// The line of the first call. Each line after it is a call too.
-pub const FIRST_CALL: usize = 3;
+pub const TIMESCALE_LINE: usize = 1;
 
-// What a session file says.
+pub const SIZES_LINE: usize = 2;
+
+// The line of the first call. Each line after it is a call too.
+const FIRST_CALL_LINE: usize = 3;
+
+/// A call, and the line that it stands on.
+#[derive(Clone, Copy, PartialEq, Eq, Debug)]
+pub struct LineCall {
+    pub line: usize,
+    pub call: Call,
+}
+
+/// What a session file says.
 #[derive(Drop)]
 pub struct Session {
     pub timescale: Timescale,
     pub sizes: Sizes,
-    // Call i stands on line 3 + i.
-    pub calls: Vec<Call>,
+    pub calls: Vec<LineCall>,
 }
 
-// Why there is no session: the file's first fault, or there is no memory for the calls.
-#[derive(Clone, Copy, PartialEq, Eq, Debug)]
-pub enum ReadError {
-    Fault(SessionFault),
-    NoMemory,
-}
-
-impl fmt::Display for ReadError {
-    ghost output = { λ error. Some (error_text error) };
-
-    fn fmt<W: fmt::Write>(&self, f: &mut fmt::Formatter<W>) -> fmt::Result {
-        match self {
-            ReadError::Fault(found) => write!(f, "{found}"),
-            ReadError::NoMemory => f.write_str("no memory for the calls"),
-        }
-    }
-}
-
-impl Error for ReadError {}
-
-impl From<SessionFault> for ReadError {
-    ghost from_gives = { λ fault error. error ≡ Fault fault };
-
-    fn from(fault: SessionFault) -> ReadError {
-        ReadError::Fault(fault)
-    }
-}
-
-impl From<AllocError> for ReadError {
-    ghost from_gives = { λ _ error. error ≡ NoMemory };
-
-    fn from(_: AllocError) -> ReadError {
-        Self::NoMemory
-    }
-}
-
-impl<T: Drop> From<AllocFailed<T>> for ReadError {
-    ghost from_gives = { λ _ error. error ≡ NoMemory };
-
-    fn from(_: AllocFailed<T>) -> ReadError {
-        ReadError::NoMemory
-    }
-}
-
-// Reads a whole session file. It is read if and only if the grammar derives it, as the one session that it derives;
-// else the answer is its first fault.
-pub fn read_session(heap: Global, file: &[u8]) -> Result<Session, ReadError>
-    ensures read { MatchResult result (λ session. Derives file.now session.timescale session.sizes session.calls.items) (Stopped (FirstFault file.now)) }
-    ensures only { (t : Timescale) (sizes : Sizes) (calls : List Call) → Derives file.now t sizes calls → MatchResult result (λ session. (session.timescale ≡ t) × (session.sizes ≡ sizes) × (session.calls.items ≡ calls)) (λ error. error ≡ NoMemory) }
+/// Reads a whole session file. It is read if and only if the grammar derives it, as the one session that it derives;
+/// else the answer is its first fault.
+pub fn read_session(heap: Global, file: &[u8]) -> Result<Session, Failure<SessionFault>>
+    ensures read { MatchResult result (DerivesSession file.now) (IfRefused (FirstFault file.now)) }
+    ensures only { ReadsOnly file.now result }
 {
     session_of(heap, file)
 }
 
-fn session_of(heap: Global, file: &[u8]) -> Result<Session, ReadError>
-    ensures { MatchResult result (λ session. Derives file.now session.timescale session.sizes session.calls.items) (Stopped (FirstFault file.now)) }
+fn session_of(heap: Global, file: &[u8]) -> Result<Session, Failure<SessionFault>>
+    ensures { MatchResult result (DerivesSession file.now) (IfRefused (FirstFault file.now)) }
 {
-    let (timescale, rest) = read_first(file)?;
-    let (sizes, rest) = read_second(rest)?;
+    let (timescale, rest) = on_line(TIMESCALE_LINE, timescale_part(file))?;
+    let (sizes, rest) = on_line(SIZES_LINE, sizes_part(rest))?;
     let calls = read_calls(heap, timescale, rest)?;
     Ok(Session {
         timescale,
@@ -97,15 +59,21 @@ fn session_of(heap: Global, file: &[u8]) -> Result<Session, ReadError>
 }
 
 // The calls of a text, one to a line.
-fn read_calls(heap: Global, timescale: Timescale, text: &[u8]) -> Result<Vec<Call>, ReadError>
-    ensures { MatchResult result (λ calls. CallLines timescale calls.items text.now) (Stopped (FaultOfCalls timescale text.now)) }
+fn read_calls(
+    heap: Global,
+    timescale: Timescale,
+    text: &[u8],
+) -> Result<Vec<LineCall>, Failure<SessionFault>>
+    ensures read { IfOk result (λ calls. CallLines timescale first_call_line calls.items text.now) }
+    ensures fault { IfErr result (IfRefused (FaultOfCalls timescale first_call_line text.now)) }
 {
     let mut calls = Vec::new(heap);
+    let mut line = FIRST_CALL_LINE;
     let mut rest = text;
     while !rest.is_empty() {
-        let line = FIRST_CALL + calls.len();
-        let (call, after) = read_next(line, timescale, rest)?;
-        calls.push(call)?;
+        let (call, after) = on_line(line, call_part(timescale, rest))?;
+        calls.push(LineCall { line, call })?;
+        line += 1;
         rest = after;
     }
     Ok(calls)

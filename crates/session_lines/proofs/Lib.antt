@@ -1,2 +1,3 @@
 pub mod Derivings
 pub mod CallNames
+pub mod Scales

@@ -1,46 +1,34 @@
 -- Every other line of a session: a call.
-use Rattle.std.specs.Prelude.{ℕ, List, [], ◌∷◌}
+use Rattle.std.specs.Prelude.{ℕ, List, [], ◌∷◌, ℤ}
+use Rattle.calls.specs.Names.{name_text, name_of}
 use Rattle.calls.specs.declared.call.Call.{Call}
-use Rattle.calls.specs.declared.call.Call.TheVariants as C
+use Rattle.calls.specs.declared.call.Call.TheVariants.{Begin, Read, Write, Prepare, Vote, Decide, Abort, Finish, Close}
 use Rattle.session_lines.specs.Grammar.{Strictness, Argument, Plain, Scaled, Spells}
-use Rattle.session_lines.specs.Names.{name_text}
-use Rattle.session_lines.specs.Timescales.{factor}
-use Rattle.session_lines.specs.declared.name.Name.{Name}
-use Rattle.session_lines.specs.declared.name.Name.TheVariants.{Begin, Read, Write, Prepare, Vote, Decide, Abort, Finish, Close}
 use Rattle.session_lines.specs.declared.timescale.Timescale.{Timescale}
 
-abbrev pub name : Call → Name
-name (C.Begin seat) = Begin
-name (C.Read seat entry) = Read
-name (C.Write seat entry value) = Write
-name (C.Prepare seat) = Prepare
-name (C.Vote seat entry) = Vote
-name (C.Decide seat) = Decide
-name (C.Abort seat) = Abort
-name (C.Finish seat entry) = Finish
-name (C.Close seat) = Close
+abbrev pub only_seat : ℕ → List Argument
+only_seat seat = Plain seat ∷ []
 
-abbrev pub seat_alone : ℕ → List Argument
-seat_alone seat = Plain seat ∷ []
+abbrev pub seat_and_entry : ℕ × ℕ → List Argument
+seat_and_entry numbers = Plain numbers.0 ∷ Plain numbers.1 ∷ []
 
-abbrev pub seat_and_entry : ℕ → ℕ → List Argument
-seat_and_entry seat entry = Plain seat ∷ Plain entry ∷ []
+abbrev pub write_arguments : Timescale → ℕ × ℕ × ℤ → List Argument
+write_arguments timescale numbers =
+    Plain numbers.0 ∷ Plain numbers.1 ∷ Scaled timescale numbers.2 ∷ []
 
 -- the numbers of a call, in their order
-abbrev pub arguments : Call → List Argument
-arguments (C.Begin seat) = seat_alone seat
-arguments (C.Read seat entry) = seat_and_entry seat entry
-arguments (C.Write seat entry value) = Plain seat ∷ Plain entry ∷ Scaled value ∷ []
-arguments (C.Prepare seat) = seat_alone seat
-arguments (C.Vote seat entry) = seat_and_entry seat entry
-arguments (C.Decide seat) = seat_alone seat
-arguments (C.Abort seat) = seat_alone seat
-arguments (C.Finish seat entry) = seat_and_entry seat entry
-arguments (C.Close seat) = seat_alone seat
+abbrev pub arguments_of : Timescale → Call → List Argument
+arguments_of _ (Begin seat) = only_seat seat
+arguments_of _ (Read seat entry) = seat_and_entry (seat, entry)
+arguments_of timescale (Write seat entry value) = write_arguments timescale (seat, entry, value)
+arguments_of _ (Prepare seat) = only_seat seat
+arguments_of _ (Vote seat entry) = seat_and_entry (seat, entry)
+arguments_of _ (Decide seat) = only_seat seat
+arguments_of _ (Abort seat) = only_seat seat
+arguments_of _ (Finish seat entry) = seat_and_entry (seat, entry)
+arguments_of _ (Close seat) = only_seat seat
 
 -- a line derives a call: its words are the name of the call and its numbers
-abbrev pub CallLine : Strictness → Timescale → List ℕ → Call → Type 0
-CallLine how t line call = Spells how (factor t) (name_text (name call)) (arguments call) line
-
-abbrev pub DerivesCall : Timescale → List ℕ → Strictness → Type 0
-DerivesCall t line how = (call : Call) × CallLine how t line call
+abbrev pub CallLine : Timescale → List ℕ → Strictness → Call → Type 0
+CallLine timescale line how call =
+    Spells how (name_text (name_of call)) (arguments_of timescale call) line

@@ -1,6 +1,6 @@
 pub mod Faults
+pub mod Scales
 pub mod Grammar
-pub mod Names
 pub mod Calls
 pub mod Sizes
 pub mod Timescales

@@ -7,8 +7,5 @@ abbrev pub size_arguments : Sizes → List Argument
 size_arguments sizes = Plain sizes.seats ∷ Plain sizes.entries ∷ Plain sizes.depth ∷ []
 
 -- a line derives sizes: its words are pool and the three of them
-abbrev pub SizesLine : Strictness → List ℕ → Sizes → Type 0
-SizesLine how line sizes = Spells how 1 (codes "pool") (size_arguments sizes) line
-
-abbrev pub DerivesSizes : List ℕ → Strictness → Type 0
-DerivesSizes line how = (sizes : Sizes) × SizesLine how line sizes
+abbrev pub SizesLine : List ℕ → Strictness → Sizes → Type 0
+SizesLine line how sizes = Spells how (codes "pool") (size_arguments sizes) line

@@ -1,32 +1,31 @@
 ghost use Rattle.std.specs.Prelude.{◌≡◌, Some};
-ghost use Rattle.session_lines.specs.Faults.{line_number, number, layer, layer_text, fault_text};
+ghost use Rattle.session_lines.specs.Faults.{line_fault_number, cause_number, layer_of, layer_text, session_fault_text};
 ghost use Rattle.session_lines.specs.declared.fault.Cause.TheVariants.{Word, Line, Pool};
-ghost use Rattle.calls.specs.declared.fault.Fault.TheVariants.{Store};
 
+use calls::failure::{AbovePool, Reason};
 use calls::fault::Fault;
 use std::error::Error;
 use std::fmt;
-use store::refusal::Refusal;
 use words::fault::WordFault;
 
-// What is wrong with a line whose length and end are as they should be.
+/// What is wrong with a line whose length and end are as they should be.
 #[derive(Clone, Copy, PartialEq, Eq, Debug)]
 pub enum LineFault {
     // A word is unknown, missing, empty or too many.
-    Words = 17,
+    WrongWords = 17,
     // A value lies farther from 0 than a store reaches.
     TooFar = 19,
 }
 
 impl LineFault {
     pub fn number(self) -> u8
-        ensures { result ≡ line_number self }
+        ensures { result ≡ line_fault_number self }
     {
         self as u8
     }
 }
 
-// Who finds a fault.
+/// Who finds a fault.
 #[derive(Clone, Copy, PartialEq, Eq, Debug)]
 pub enum Layer {
     Word,
@@ -48,7 +47,7 @@ impl fmt::Display for Layer {
     }
 }
 
-// Why a line of a session is not done, whoever finds it.
+/// Why a line of a session is not done, whoever finds it.
 #[derive(Clone, Copy, PartialEq, Eq, Debug)]
 pub enum Cause {
     Word(WordFault),
@@ -58,7 +57,7 @@ pub enum Cause {
 
 impl Cause {
     pub fn number(self) -> u8
-        ensures { result ≡ number self }
+        ensures { result ≡ cause_number self }
     {
         match self {
             Cause::Word(found) => found.number(),
@@ -68,7 +67,7 @@ impl Cause {
     }
 
     pub fn layer(self) -> Layer
-        ensures { result ≡ layer self }
+        ensures { result ≡ layer_of self }
     {
         match self {
             Cause::Word(_) => Layer::Word,
@@ -76,6 +75,13 @@ impl Cause {
             Cause::Pool(Fault::Store(_)) => Layer::Store,
             Cause::Pool(_) => Layer::Pool,
         }
+    }
+
+    /// The fault that a line has for this cause.
+    pub fn on_line(self, line: usize) -> SessionFault
+        ensures { result ≡ record { line = line; cause = self } }
+    {
+        SessionFault { line, cause: self }
     }
 }
 
@@ -103,15 +109,11 @@ impl From<Fault> for Cause {
     }
 }
 
-impl From<Refusal> for Cause {
-    ghost from_gives = { λ refusal cause. cause ≡ Pool (Store refusal) };
+impl Reason for Cause {}
 
-    fn from(refusal: Refusal) -> Cause {
-        Cause::Pool(Fault::Store(refusal))
-    }
-}
+impl AbovePool for Cause {}
 
-// A fault, and the line that has it. Lines are numbered from 1.
+/// A fault, and the line that has it. Lines are numbered from 1.
 #[derive(Clone, Copy, PartialEq, Eq, Debug)]
 pub struct SessionFault {
     pub line: usize,
@@ -120,20 +122,20 @@ pub struct SessionFault {
 
 impl SessionFault {
     pub fn number(self) -> u8
-        ensures { result ≡ number self.cause }
+        ensures { result ≡ cause_number self.cause }
     {
         self.cause.number()
     }
 
     pub fn layer(self) -> Layer
-        ensures { result ≡ layer self.cause }
+        ensures { result ≡ layer_of self.cause }
     {
         self.cause.layer()
     }
 }
 
 impl fmt::Display for SessionFault {
-    ghost output = { λ fault. Some (fault_text fault) };
+    ghost output = { λ fault. Some (session_fault_text fault) };
 
     // The file is at fault, or the pool refuses what it asks for.
     fn fmt<W: fmt::Write>(&self, f: &mut fmt::Formatter<W>) -> fmt::Result {
@@ -148,3 +150,5 @@ impl fmt::Display for SessionFault {
 }
 
 impl Error for SessionFault {}
+
+impl Reason for SessionFault {}

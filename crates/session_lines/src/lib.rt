@@ -3,8 +3,5 @@
 
 pub mod call;
 pub mod fault;
-pub mod name;
 pub mod sizes;
-#[cfg(test)]
-mod tests;
 pub mod timescale;

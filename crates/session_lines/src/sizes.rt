@@ -1,13 +1,12 @@
-ghost use Rattle.std.specs.Prelude.{◌≡◌, List, ℕ, drop, MatchResult};
-ghost use Rattle.session_lines.specs.Grammar.{HasFault, InReach, Arguments};
-ghost use Rattle.session_lines.specs.Sizes.{SizesLine, DerivesSizes, size_arguments};
-ghost use Rattle.session_lines.specs.declared.sizes.Sizes.{Sizes};
+ghost use Rattle.std.specs.Prelude.{drop};
+ghost use Rattle.session_lines.specs.Grammar.{ArgumentsOf, MatchReading};
+ghost use Rattle.session_lines.specs.Sizes.{SizesLine, size_arguments};
 
 use crate::fault::{Cause, LineFault};
 use words::number::plain;
 use words::token::{next_word, three_words};
 
-// How large a pool and its store are to be.
+/// How large a pool and its store are to be.
 #[derive(Clone, Copy, PartialEq, Eq, Debug)]
 pub struct Sizes {
     pub seats: usize,
@@ -15,22 +14,22 @@ pub struct Sizes {
     pub depth: usize,
 }
 
-// Reads `pool N M D`.
+/// Reads `pool N M D`.
 pub fn read_sizes(line: &[u8]) -> Result<Sizes, Cause>
-    ensures { MatchResult result (SizesLine InReach line.now) (HasFault (DerivesSizes line.now)) }
+    ensures { MatchReading result (SizesLine line.now) }
 {
-    let (name, at) = next_word(line, 0).ok_or(LineFault::Words)?;
+    let (name, at) = next_word(line, 0).ok_or(LineFault::WrongWords)?;
     if name != b"pool".as_slice() {
-        return Err(LineFault::Words.into());
+        return Err(LineFault::WrongWords.into());
     }
     sizes_at(line, at)
 }
 
 // The rest of a line as three sizes.
 fn sizes_at(line: &[u8], at: usize) -> Result<Sizes, Cause>
-    ensures { MatchResult result (λ sizes. Arguments InReach 1 (size_arguments sizes) (drop at line.now)) (HasFault (λ how. (sizes : Sizes) × Arguments how 1 (size_arguments sizes) (drop at line.now))) }
+    ensures { MatchReading result (ArgumentsOf size_arguments (drop at line.now)) }
 {
-    let (seats, entries, depth) = three_words(line, at).ok_or(LineFault::Words)?;
+    let (seats, entries, depth) = three_words(line, at).ok_or(LineFault::WrongWords)?;
     let seats = plain(seats)?;
     let entries = plain(entries)?;
     let depth = plain(depth)?;

@@ -1,14 +1,13 @@
-ghost use Rattle.std.specs.Prelude.{◌≡◌, ℕ, ℤ, pos, MatchOption, MatchResult};
-ghost use Rattle.session_lines.specs.Timescales.{amount, amount_text, unit_size, unit_text, factor, TimescaleLine};
-ghost use Rattle.session_lines.specs.declared.timescale.Amount.{Amount};
-ghost use Rattle.session_lines.specs.declared.timescale.Unit.{Unit};
-ghost use Rattle.session_lines.specs.declared.timescale.Timescale.{Timescale};
-ghost use Rattle.session_lines.specs.declared.fault.LineFault.TheVariants.{Words};
+ghost use Rattle.std.specs.Prelude.{◌≡◌, pos};
+ghost use Rattle.calls.specs.Names.{MatchName};
+ghost use Rattle.session_lines.specs.Scales.{amount_text, unit_size, unit_text, factor};
+ghost use Rattle.session_lines.specs.Grammar.{MatchReading};
+ghost use Rattle.session_lines.specs.Timescales.{TimescaleLine};
 
-use crate::fault::LineFault;
+use crate::fault::{Cause, LineFault};
 use words::token::three_words;
 
-// How many units a value counts.
+/// How many units a value counts.
 #[derive(Clone, Copy, PartialEq, Eq, Debug)]
 pub enum Amount {
     One = 1,
@@ -26,7 +25,7 @@ pub enum Unit {
     Femtoseconds,
 }
 
-// What the values of a session count: so many of a unit.
+/// What the values of a session count: so many of a unit.
 #[derive(Clone, Copy, PartialEq, Eq, Debug)]
 pub struct Timescale {
     pub amount: Amount,
@@ -35,7 +34,7 @@ pub struct Timescale {
 
 impl Amount {
     pub fn of_word(word: &[u8]) -> Option<Amount>
-        ensures { MatchOption result ((a : Amount) → amount_text a ≡ word.now → ⊥) (λ a. amount_text a ≡ word.now) }
+        ensures { MatchName amount_text word.now result }
     {
         match word {
             b"1" => Some(Amount::One),
@@ -48,7 +47,7 @@ impl Amount {
 
 impl Unit {
     pub fn of_word(word: &[u8]) -> Option<Unit>
-        ensures { MatchOption result ((u : Unit) → unit_text u ≡ word.now → ⊥) (λ u. unit_text u ≡ word.now) }
+        ensures { MatchName unit_text word.now result }
     {
         match word {
             b"s" => Some(Unit::Seconds),
@@ -61,7 +60,7 @@ impl Unit {
         }
     }
 
-    // In femtoseconds.
+    /// In femtoseconds.
     pub fn size(self) -> i64
         ensures { result ≡ pos (unit_size self) }
     {
@@ -77,7 +76,7 @@ impl Unit {
 }
 
 impl Timescale {
-    // How many femtoseconds a value of 1 is.
+    /// How many femtoseconds a value of 1 is.
     pub fn factor(self) -> i64
         ensures { result ≡ pos (factor self) }
     {
@@ -85,21 +84,15 @@ impl Timescale {
     }
 }
 
-// Reads `timescale A U`.
-pub fn read_timescale(line: &[u8]) -> Result<Timescale, LineFault>
-    ensures { MatchResult result (TimescaleLine line.now) (λ fault. (fault ≡ Words) × ((t : Timescale) → TimescaleLine line.now t → ⊥)) }
+/// Reads `timescale A U`.
+pub fn read_timescale(line: &[u8]) -> Result<Timescale, Cause>
+    ensures { MatchReading result (TimescaleLine line.now) }
 {
-    timescale_in(line).ok_or(LineFault::Words)
-}
-
-fn timescale_in(line: &[u8]) -> Option<Timescale>
-    ensures { MatchOption result ((t : Timescale) → TimescaleLine line.now t → ⊥) (TimescaleLine line.now) }
-{
-    let (name, amount, unit) = three_words(line, 0)?;
+    let (name, amount, unit) = three_words(line, 0).ok_or(LineFault::WrongWords)?;
     if name != b"timescale".as_slice() {
-        return None;
+        return Err(LineFault::WrongWords.into());
     }
-    let amount = Amount::of_word(amount)?;
-    let unit = Unit::of_word(unit)?;
-    Some(Timescale { amount, unit })
+    let amount = Amount::of_word(amount).ok_or(LineFault::WrongWords)?;
+    let unit = Unit::of_word(unit).ok_or(LineFault::WrongWords)?;
+    Ok(Timescale { amount, unit })
 }

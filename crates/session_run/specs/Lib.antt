@@ -1,3 +1,2 @@
 pub mod Texts
-pub mod Troubles
 pub mod Sessions

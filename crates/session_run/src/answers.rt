@@ -1,13 +1,13 @@
-ghost use Rattle.std.specs.Prelude.{◌≡◌, IfOk, Some, string_bytes};
+ghost use Rattle.std.specs.Prelude.{◌≡◌, IfOk, Some, length, string_bytes};
 ghost use Rattle.session_run.specs.Texts.{answer_text, answer_lines};
 
 use calls::answer::Answer;
-use session_file::session::FIRST_CALL;
+use session_file::session::LineCall;
 use session_lines::fault::SessionFault;
 use std::alloc::{AllocError, Global};
 use std::fmt;
 
-// What a call answered, and the line that it stands on.
+/// What a call answered, and the line that it stands on.
 #[derive(Clone, Copy, PartialEq, Eq, Debug)]
 pub struct LineAnswer {
     pub line: usize,
@@ -32,15 +32,20 @@ impl fmt::Display for LineAnswer {
     }
 }
 
-// The answers to the calls of a session, each on a line of its own.
-pub fn answers_text(heap: Global, answers: &[Answer]) -> Result<String, AllocError>
-    ensures { IfOk result (λ text. string_bytes text ≡ answer_lines 3 answers.now) }
+/// The answers to the calls of a session, each on a line of its own.
+pub fn answers_text(
+    heap: Global,
+    calls: &[LineCall],
+    answers: &[Answer],
+) -> Result<String, AllocError>
+    requires { length answers.now ≡ length calls.now }
+    ensures { IfOk result (λ text. string_bytes text ≡ answer_lines calls.now answers.now) }
 {
     let mut text = String::new(heap);
-    for (index, answer) in answers.iter().enumerate() {
+    for (index, call) in calls.iter().enumerate() {
         let answered = LineAnswer {
-            line: FIRST_CALL + index,
-            answer: *answer,
+            line: call.line,
+            answer: answers[index],
         };
         writeln!(text, "{answered}")?;
     }

@@ -3,6 +3,3 @@
 
 pub mod answers;
 pub mod session;
-#[cfg(test)]
-mod tests;
-mod trouble;

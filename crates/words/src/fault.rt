@@ -1,18 +1,18 @@
 ghost use Rattle.std.specs.Prelude.{◌≡◌};
-ghost use Rattle.words.specs.Faults.{number};
+ghost use Rattle.words.specs.Faults.{word_fault_number};
 
-// What is wrong with a line or a number, whatever they are to say.
+/// What is wrong with a line or a number, whatever they are to say.
 #[derive(Clone, Copy, PartialEq, Eq, Debug)]
 pub enum WordFault {
     // A number is not written as numbers are.
-    Number = 18,
+    NumberForm = 18,
     // A line is too long, or has no end.
-    Line = 20,
+    LineForm = 20,
 }
 
 impl WordFault {
     pub fn number(self) -> u8
-        ensures { result ≡ number self }
+        ensures { result ≡ word_fault_number self }
     {
         self as u8
     }

@@ -5,6 +5,4 @@ mod cut;
 pub mod fault;
 pub mod line;
 pub mod number;
-#[cfg(test)]
-mod tests;
 pub mod token;

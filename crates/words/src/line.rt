@@ -1,19 +1,18 @@
-ghost use Rattle.std.specs.Prelude.{◌≡◌, List, ℕ, MatchResult};
-ghost use Rattle.words.specs.Lines.{Begins, IsLine};
-ghost use Rattle.words.specs.declared.fault.WordFault.TheVariants.{Line};
+ghost use Rattle.std.specs.Prelude.{MatchResult};
+ghost use Rattle.words.specs.Lines.{HasFirstLine, HasNoLine};
 
 use crate::cut::cut;
 use crate::fault::WordFault;
 
-// The most bytes that a line may have before its line feed.
+/// The most bytes that a line may have before its line feed.
 pub const LONGEST_LINE: usize = 80;
 
-// The line that a text begins with, and what follows its line feed.
+/// The line that a text begins with, and what follows its line feed.
 pub fn first_line(text: &[u8]) -> Result<(&[u8], &[u8]), WordFault>
-    ensures { MatchResult result (λ parts. Begins parts.0.now parts.1.now text.now) (λ fault. (fault ≡ Line) × ((line rest : List ℕ) → Begins line rest text.now → ⊥)) }
+    ensures { MatchResult result (HasFirstLine text.now) (HasNoLine text.now) }
 {
     match cut(text, b'\n') {
         Some((line, rest)) if line.len() <= LONGEST_LINE => Ok((line, rest)),
-        _ => Err(WordFault::Line),
+        _ => Err(WordFault::LineForm),
     }
 }

@@ -1,33 +1,32 @@
-ghost use Rattle.std.specs.Prelude.{◌≡◌, ℕ, ℤ, ◌<◌, ◌≤◌, ◌^◌, length, MatchOption, MatchResult};
-ghost use Rattle.words.specs.Numbers.{Digits, Number, Value};
-ghost use Rattle.words.specs.declared.fault.WordFault.TheVariants.{Number as number_fault};
+ghost use Rattle.std.specs.Prelude.{ℕ, ◌<◌, ◌≤◌, ◌^◌, length, MatchOption, IfOk};
+ghost use Rattle.words.specs.Numbers.{Digits, Number, PlainNumber, Value, MatchForm};
 
 use crate::fault::WordFault;
 
-// The most digits of a plain number.
+/// The most digits of a plain number.
 pub const PLAIN_DIGITS: usize = 9;
 
-// The most digits of a value, without its sign.
+/// The most digits of a value, without its sign.
 pub const VALUE_DIGITS: usize = 18;
 
-// A plain number: one digit up to nine.
+/// A plain number: one digit up to nine.
 pub fn plain(word: &[u8]) -> Result<usize, WordFault>
-    ensures { MatchResult result (Number 9 word.now) (λ fault. (fault ≡ number_fault) × ((n : ℕ) → Number 9 word.now n → ⊥)) }
+    ensures { MatchForm result (PlainNumber word.now) }
 {
     let number = number(word, PLAIN_DIGITS)?;
     Ok(number as usize)
 }
 
-// A value: one digit up to eighteen, with or without a minus in front. There is no minus in front of 0.
+/// A value: one digit up to eighteen, with or without a minus in front. There is no minus in front of 0.
 #[tactic(auto, using(crate::proofs::Numerals::no_minus_zero, crate::proofs::Numerals::no_minus))]
 pub fn value(word: &[u8]) -> Result<i64, WordFault>
-    ensures { MatchResult result (Value word.now) (λ fault. (fault ≡ number_fault) × ((z : ℤ) → Value word.now z → ⊥)) }
+    ensures { MatchForm result (Value word.now) }
 {
     match word {
         [b'-', digits @ ..] => {
             let size = number(digits, VALUE_DIGITS)?;
             if size == 0 {
-                return Err(WordFault::Number);
+                return Err(WordFault::NumberForm);
             }
             Ok(-(size as i64))
         }
@@ -42,14 +41,14 @@ pub fn value(word: &[u8]) -> Result<i64, WordFault>
 #[tactic(auto, using(crate::proofs::Numerals::digits_small))]
 fn number(word: &[u8], most: usize) -> Result<u64, WordFault>
     requires { most ≤ 18 }
-    ensures small { MatchResult result (λ n. n < 10 ^ 18) (λ _. Unit {0}) }
-    ensures read { MatchResult result (Number most word.now) (λ fault. (fault ≡ number_fault) × ((n : ℕ) → Number most word.now n → ⊥)) }
+    ensures small { IfOk result (λ n. n < 10 ^ 18) }
+    ensures read { MatchForm result (Number most word.now) }
 {
     match word {
-        [] => Err(WordFault::Number),
-        [b'0', _, ..] => Err(WordFault::Number),
-        _ if word.len() > most => Err(WordFault::Number),
-        _ => digits(word).ok_or(WordFault::Number),
+        [] => Err(WordFault::NumberForm),
+        [b'0', _, ..] => Err(WordFault::NumberForm),
+        _ if word.len() > most => Err(WordFault::NumberForm),
+        _ => digits(word).ok_or(WordFault::NumberForm),
     }
 }
 

@@ -1,10 +1,10 @@
-ghost use Rattle.std.specs.Prelude.{◌≡◌, ℕ, List, [], ◌∷◌, drop, MatchOption};
-ghost use Rattle.words.specs.Words.{Leads, Words};
-ghost use Rattle.words.specs.Tokens.{IsToken};
+ghost use Rattle.std.specs.Prelude.{drop, MatchOption};
+ghost use Rattle.words.specs.Words.{LeadsNowhere, MatchWords};
+ghost use Rattle.words.specs.Tokens.{IsToken, IsNextWord, one, two, three};
 
 use crate::cut::cut;
 
-// What stands at a place of a line. The text is the part of the line that begins there.
+/// What stands at a place of a line. The text is the part of the line that begins there.
 #[derive(Clone, Copy, PartialEq, Eq, Debug)]
 pub enum Token<'a> {
     // A word with a blank behind it, so that another has to follow.
@@ -27,9 +27,9 @@ pub fn token_at(line: &[u8], at: usize) -> Token<'_>
     }
 }
 
-// The word at a place of a line that more words follow, and the place where they begin.
+/// The word at a place of a line that more words follow, and the place where they begin.
 pub fn next_word(line: &[u8], at: usize) -> Option<(&[u8], usize)>
-    ensures { MatchOption result ((word rest : List ℕ) → Leads word rest (drop at line.now) → ⊥) (λ found. Leads found.0.now (drop found.1 line.now) (drop at line.now)) }
+    ensures { MatchOption result (LeadsNowhere (drop at line.now)) (IsNextWord line.now at) }
 {
     match token_at(line, at) {
         Token::Word { text, at } => Some((text, at + text.len() + 1)),
@@ -37,10 +37,10 @@ pub fn next_word(line: &[u8], at: usize) -> Option<(&[u8], usize)>
     }
 }
 
-// The one word from a place of a line to its end.
+/// The one word from a place of a line to its end.
 #[tactic(auto, using(crate::proofs::Splits::no_more, crate::proofs::Splits::word_begins))]
 pub fn one_word(line: &[u8], at: usize) -> Option<&[u8]>
-    ensures { MatchOption result ((word : List ℕ) → Words (word ∷ []) (drop at line.now) → ⊥) (λ word. Words (word.now ∷ []) (drop at line.now)) }
+    ensures { MatchWords 1 one (drop at line.now) result }
 {
     match token_at(line, at) {
         Token::Last { text, .. } => Some(text),
@@ -48,18 +48,18 @@ pub fn one_word(line: &[u8], at: usize) -> Option<&[u8]>
     }
 }
 
-// The two words from a place of a line to its end.
+/// The two words from a place of a line to its end.
 pub fn two_words(line: &[u8], at: usize) -> Option<(&[u8], &[u8])>
-    ensures { MatchOption result ((a b : List ℕ) → Words (a ∷ b ∷ []) (drop at line.now) → ⊥) (λ found. Words (found.0.now ∷ found.1.now ∷ []) (drop at line.now)) }
+    ensures { MatchWords 2 two (drop at line.now) result }
 {
     let (first, next) = next_word(line, at)?;
     let second = one_word(line, next)?;
     Some((first, second))
 }
 
-// The three words from a place of a line to its end.
+/// The three words from a place of a line to its end.
 pub fn three_words(line: &[u8], at: usize) -> Option<(&[u8], &[u8], &[u8])>
-    ensures { MatchOption result ((a b c : List ℕ) → Words (a ∷ b ∷ c ∷ []) (drop at line.now) → ⊥) (λ found. Words (found.0.now ∷ found.1.now ∷ found.2.now ∷ []) (drop at line.now)) }
+    ensures { MatchWords 3 three (drop at line.now) result }
 {
     let (first, next) = next_word(line, at)?;
     let (second, third) = two_words(line, next)?;

@@ -1,29 +1,23 @@
-use Rattle.session_file.proofs.session.read_calls.Goals as goal
-use Rattle.std.proofs.Common.{[], ◌≡◌, length, ◌<◌, arith, rules}
-use Rattle.session_file.proofs.OneMore.{one_more, one_later, first_shorter, stops, here, empty}
-use Rattle.session_file.specs.Reads.{FaultOfCalls}
-use Rattle.std.proofs.Common.{◌+◌, append-nil}
-use Rattle.session_lines.specs.Grammar.{InReach}
+use Rattle.std.proofs.Common.{rules, arith, ◌≡◌, [], length, append-nil}
 use Rattle.session_lines.specs.Calls.{CallLine}
-
-pub returns-in_err-call : goal.returns-in_err-call
-returns-in_err-call c =
-    let some : 0 < length c.loop-rest.rest.now = search rules in
-    let line : c.in_err-call.field-0.0.line ≡ 3 + length c.loop-rest.calls.items = omega (arith, c.in_err-call.ensures.0, c.len-line.ensures) in
-    stops _ (FaultOfCalls c.args.timescale c.args.text.now) c.from_residual.result c.in_err-call.field-0.0 c.from_residual.ensures.1
-    (here c.args.timescale c.loop-rest.calls.items c.loop-rest.rest.now c.args.text.now c.in_err-call.field-0.0.line c.in_err-call.field-0.0.cause line some c.in_err-call.ensures.1 c.loop-rest.invariant.faulty)
-
-pub loop-rest-smaller : goal.loop-rest-smaller
-loop-rest-smaller c = first_shorter (λ line. CallLine InReach c.args.timescale line c.in_ok-call.call) c.in_ok-call.after.now c.loop-rest.rest.now c.in_ok-call.ensures
+use Rattle.session_file.specs.Files.{BeginsWith, first_call_line}
+use Rattle.session_file.proofs.OneMore.{one_more, one_later, one_shorter, empty}
+use Rattle.session_file.proofs.session.read_calls.Goals as goal
 
 pub loop-rest-preserved : goal.loop-rest-preserved
-loop-rest-preserved c = record {
-  derived = rw c.in_ok-push.ensures.items (one_more c.args.timescale c.loop-rest.calls.items c.in_ok-call.call c.in_ok-call.after.now c.loop-rest.rest.now c.args.text.now c.in_ok-call.ensures c.loop-rest.invariant.derived);
-  faulty = rw c.in_ok-push.ensures.items (one_later c.args.timescale c.loop-rest.calls.items c.in_ok-call.call c.in_ok-call.after.now c.loop-rest.rest.now c.args.text.now c.in_ok-call.ensures c.loop-rest.invariant.faulty);
-}
+loop-rest-preserved c =
+    let scale = c.args.timescale in
+    let call = c.in_ok-call.call in
+    let after = c.in_ok-call.after.now in
+    let begins : BeginsWith (CallLine c.args.timescale) c.in_ok-call.call c.in_ok-call.after.now c.loop-rest.rest.now = rw c.in_ok-call.ensures at c.call_part.ensures in
+    record {
+      derived = rw c.in_ok-push.ensures.items (one_more scale first_call_line c.loop-rest.line c.loop-rest.calls.items call after c.loop-rest.rest.now c.args.text.now begins c.loop-rest.invariant.derived);
+      faulty = λ fault h. c.loop-rest.invariant.faulty fault (one_later scale c.loop-rest.line call after c.loop-rest.rest.now fault begins h);
+      few = omega (arith, one_shorter (CallLine c.args.timescale) c.in_ok-call.call c.in_ok-call.after.now c.loop-rest.rest.now begins, c.loop-rest.invariant.few);
+    }
 
-pub returns : goal.returns
-returns c =
+pub returns-clause-read : goal.returns-clause-read
+returns-clause-read c =
     let no_bytes : length c.loop-rest.rest.now ≡ 0 = search rules in
     let none : c.loop-rest.rest.now ≡ [] = empty c.loop-rest.rest.now no_bytes in
     rw append-nil at (c.loop-rest.invariant.derived [] none)

@@ -1,14 +1,15 @@
-use Rattle.std.proofs.Common.{ℕ, ◌+◌, List, ◌++◌, length}
-use Rattle.calls.specs.declared.call.Call.{Call}
-use Rattle.session_lines.specs.declared.fault.Cause.{Cause}
-use Rattle.session_file.specs.Files.{CallLines, CallsFault}
+use Rattle.std.proofs.Common.{◌+◌, ◌≤◌, List, ◌++◌, length}
+use Rattle.session_lines.specs.declared.fault.SessionFault.{SessionFault}
+use Rattle.session_file.specs.Files.{CallLines, FaultOfCalls, first_call_line}
+use Rattle.session_file.specs.declared.session.LineCall.{LineCall}
 use Rattle.session_file.proofs.session.read_calls.Given as goal
 
--- what the rest derives completes the calls so far; where the rest is at fault, so is the text
+-- what the rest derives completes the calls so far; where the rest is at fault, so is the text; each line took a byte at least
 abbrev pub invariant-loop-rest : goal.invariant-loop-rest
 invariant-loop-rest l = record {
-  derived : (more : List Call) → CallLines l.timescale more l.rest → CallLines l.timescale (l.calls.items ++ more) l.text;
-  faulty : (good : ℕ) (cause : Cause) → CallsFault l.timescale good l.rest cause → CallsFault l.timescale (length l.calls.items + good) l.text cause;
+  derived : (more : List LineCall) → CallLines l.timescale l.line more l.rest → CallLines l.timescale first_call_line (l.calls.items ++ more) l.text;
+  faulty : (fault : SessionFault) → FaultOfCalls l.timescale l.line l.rest fault → FaultOfCalls l.timescale first_call_line l.text fault;
+  few : l.line + length l.rest ≤ first_call_line + length l.text;
 }
 
 abbrev pub decreases-loop-rest : goal.decreases-loop-rest

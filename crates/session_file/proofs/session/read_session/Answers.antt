@@ -2,4 +2,4 @@ use Rattle.session_file.proofs.Wholes.{whole_only}
 use Rattle.session_file.proofs.session.read_session.Goals as goal
 
 pub returns-clause-only : goal.returns-clause-only
-returns-clause-only c t sizes calls h = whole_only c.session_of.result c.args.file.now c.session_of.ensures t sizes calls h
+returns-clause-only c = whole_only c.session_of.result c.args.file.now c.session_of.ensures

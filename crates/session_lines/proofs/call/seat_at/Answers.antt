@@ -5,18 +5,18 @@ use Rattle.session_lines.proofs.Derivings.{stops_at_none, stops_at_word, not_one
 use Rattle.session_lines.proofs.call.seat_at.Goals as goal
 
 pub returns-in_err-seat : goal.returns-in_err-seat
-returns-in_err-seat c f =
+returns-in_err-seat c =
     let text = drop c.args.at c.args.line.now in
-    stops_at_none _ _ (λ how. (seat : ℕ) × Arguments how f (Plain seat ∷ []) text) c.from_residual.result c.one_word.result c.in_err-seat.field-0.0 _ c.from_residual.ensures.1 c.in_err-seat.ensures.value c.one_word.ensures
-    (λ none d. not_one AnyWord f (Plain d.0) text none d.1)
+    stops_at_none _ _ (λ how. (seat : ℕ) × Arguments how (Plain seat ∷ []) text) c.from_residual.result c.one_word.result c.in_err-seat.field-0.0 _ c.from_residual.ensures.1 c.in_err-seat.ensures.value c.one_word.ensures
+    (λ none d. not_one AnyWord (Plain d.0) text none d.1)
 
 pub returns-in_err-seat-2 : goal.returns-in_err-seat-2
-returns-in_err-seat-2 c f =
+returns-in_err-seat-2 c =
     let text = drop c.args.at c.args.line.now in
     let ws = c.in_ok-seat.seat.now ∷ [] in
     let words : Words (c.in_ok-seat.seat.now ∷ []) (drop c.args.at c.args.line.now) = rw c.in_ok-seat.ensures.ok_part at c.one_word.ensures in
-    stops_at_word _ (λ how. (seat : ℕ) × Arguments how f (Plain seat ∷ []) text) c.from_residual-in_err-seat-2.result c.in_err-seat-2.field-0.0 c.from_residual-in_err-seat-2.ensures.1 c.in_err-seat-2.ensures
-    (λ none. ((0, (ws, words, (tt, tt))), λ d. none d.0 (read_so InForm f (Plain d.0 ∷ []) ws text words d.1).0))
+    stops_at_word _ (λ how. (seat : ℕ) × Arguments how (Plain seat ∷ []) text) c.from_residual-in_err-seat-2.result c.in_err-seat-2.field-0.0 c.from_residual-in_err-seat-2.ensures.1 c.in_err-seat-2.ensures
+    (λ none. ((0, (ws, words, (tt, tt))), λ d. none d.0 (read_so InForm (Plain d.0 ∷ []) ws text words d.1).0))
 
 pub returns : goal.returns
-returns c f = (c.in_ok-seat.seat.now ∷ [], rw c.in_ok-seat.ensures.ok_part at c.one_word.ensures, (c.in_ok-seat-2.ensures, tt))
+returns c = (c.in_ok-seat.seat.now ∷ [], rw c.in_ok-seat.ensures.ok_part at c.one_word.ensures, (c.in_ok-seat-2.ensures, tt))

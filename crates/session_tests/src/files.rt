@@ -1,5 +1,6 @@
-use crate::session::{ReadError, Session, read_session};
 use calls::call::Call;
+use calls::failure::Failure;
+use session_file::session::{LineCall, Session, read_session};
 use session_lines::fault::{Cause, LineFault, SessionFault};
 use session_lines::sizes::Sizes;
 use session_lines::timescale::{Amount, Timescale, Unit};
@@ -7,19 +8,19 @@ use std::alloc::Global;
 use std::test::Fail;
 use words::fault::WordFault;
 
-const WORDS: Cause = Cause::Line(LineFault::Words);
+const WORDS: Cause = Cause::Line(LineFault::WrongWords);
 
 const TOO_FAR: Cause = Cause::Line(LineFault::TooFar);
 
-const NUMBER: Cause = Cause::Word(WordFault::Number);
+const NUMBER: Cause = Cause::Word(WordFault::NumberForm);
 
-const LINE: Cause = Cause::Word(WordFault::Line);
+const LINE: Cause = Cause::Word(WordFault::LineForm);
 
 // The fault of a file, if it has one.
 fn fault_of(heap: Global, file: &[u8]) -> Option<SessionFault> {
     match read_session(heap, file) {
-        Err(ReadError::Fault(fault)) => Some(fault),
-        Err(ReadError::NoMemory) | Ok(_) => None,
+        Err(Failure::Refused(fault)) => Some(fault),
+        Err(Failure::NoMemory) | Ok(_) => None,
     }
 }
 
@@ -65,7 +66,10 @@ fn a_session_is_read(rt: HostRuntime) -> Result<(), Fail> {
         Call::Close { seat: 0 },
         Call::Abort { seat: 1 },
     ];
-    assert_eq!(rt; calls.as_slice(), &wanted[..]);
+    assert_eq!(rt; calls.len(), wanted.len());
+    for (found, (line, call)) in calls.iter().zip((3..).zip(wanted)) {
+        assert_eq!(rt; *found, LineCall { line, call });
+    }
     Ok(())
 }
 

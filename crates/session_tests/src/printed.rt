@@ -1,4 +1,4 @@
-use crate::session::session_text;
+use session_run::session::session_text;
 use std::test::Fail;
 
 #[test]

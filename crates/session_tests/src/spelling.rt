@@ -1,7 +1,7 @@
-use crate::fault::WordFault;
-use crate::line::first_line;
-use crate::number::{plain, value};
-use crate::token::{Token, next_word, one_word, three_words, token_at, two_words};
+use words::fault::WordFault;
+use words::line::first_line;
+use words::number::{plain, value};
+use words::token::{Token, next_word, one_word, three_words, token_at, two_words};
 
 #[test]
 fn lines_end_within_eighty_bytes(rt: HostRuntime) {
@@ -11,11 +11,11 @@ fn lines_end_within_eighty_bytes(rt: HostRuntime) {
     assert_eq!(rt; first_line(&ended), Ok((&eighty[..], &b""[..])));
     let mut longer = [b'x'; 82];
     longer[81] = b'\n';
-    assert_eq!(rt; first_line(&longer), Err(WordFault::Line));
+    assert_eq!(rt; first_line(&longer), Err(WordFault::LineForm));
     assert_eq!(rt; first_line(b"\n"), Ok((&b""[..], &b""[..])));
     assert_eq!(rt; first_line(b"a b\nc\n"), Ok((&b"a b"[..], &b"c\n"[..])));
-    assert_eq!(rt; first_line(b"a b"), Err(WordFault::Line));
-    assert_eq!(rt; first_line(b""), Err(WordFault::Line));
+    assert_eq!(rt; first_line(b"a b"), Err(WordFault::LineForm));
+    assert_eq!(rt; first_line(b""), Err(WordFault::LineForm));
 }
 
 #[test]
@@ -73,7 +73,7 @@ fn plain_numbers_have_nine_digits_at_most(rt: HostRuntime) {
         b":",
     ];
     for word in refused {
-        assert_eq!(rt; plain(word), Err(WordFault::Number));
+        assert_eq!(rt; plain(word), Err(WordFault::NumberForm));
     }
 }
 
@@ -97,6 +97,6 @@ fn values_have_eighteen_digits_at_most(rt: HostRuntime) {
         b"1.5",
     ];
     for word in refused {
-        assert_eq!(rt; value(word), Err(WordFault::Number));
+        assert_eq!(rt; value(word), Err(WordFault::NumberForm));
     }
 }
