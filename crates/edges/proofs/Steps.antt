@@ -1,37 +1,57 @@
--- The calls of an edge case, one after another.
-use Rattle.std.proofs.Common.{◌≡◌, ℕ, ◌+◌, ◌<◌, List, [], ◌∷◌, ◌++◌, length, map, get_or, take, drop, Ok, rules, sym, ap, ◌∙◌, subst, arith, add-one, drop-cons}
-use Rattle.std.proofs.lemmas.List.{length-map, get_or-map, map-append, take_more}
-use Rattle.calls.specs.declared.answer.Reply.TheVariants.{Done}
+-- The calls of an edge case, made one after another.
+use Rattle.std.proofs.Common.{◌≡◌, List, [], ◌∷◌, rules, refl, sym, ap, ap₂, ◌∙◌, subst}
 use Rattle.calls.specs.declared.call.Call.{Call}
-use Rattle.calls.specs.Faults.{number}
-use Rattle.pool.specs.Tables.{Moment}
-use Rattle.pool.specs.Calls.{Rule}
-use Rattle.alone.specs.Runs.{answer_of, after_call}
-use Rattle.edges.specs.declared.played.Edge.{Edge}
-use Rattle.edges.specs.declared.played.Edge.TheVariants.{FilledChain, TwoReaders, LoneReader, EmptyEdit, OneNo}
-use Rattle.edges.specs.Trials.{Trial, ◌⇒◌, Answered, by_number, opened}
-use Rattle.edges.specs.Edges.{house, trials}
+use Rattle.calls.specs.Answers.{Answer}
+use Rattle.calls.specs.Faults.{fault_number}
+use Rattle.store.specs.declared.reading.ReadingStore as reading_store
+use Rattle.store.specs.declared.writing.WritingStore as writing_store
+use Rattle.rules.specs.declared.house.HouseRule as house_rule
+use Rattle.pool.specs.declared.pool.Pool.{Pool}
+use Rattle.pool.specs.Calls.{Rule, PoolState, open_pool, state_after}
+use Rattle.pool.specs.Pools.{state_of, rule_of}
+use Rattle.runner.specs.Runs.{PerformsEach, Runs}
+use Rattle.edges.specs.declared.cases.Edge.{Edge}
+use Rattle.edges.specs.declared.cases.Edge.TheVariants.{FilledChain, TwoReaders, LoneReader}
+use Rattle.edges.specs.declared.cases.Edge.TheVariants.{EmptyEdit, OneNo}
+use Rattle.edges.specs.Trials.{Trial, PassesTrials, AreAnswersOf, by_number, calls_of}
+use Rattle.edges.specs.Edges.{trials, limits_of_five, unopened_pool, opened_pool}
 
-pub all_answered : (e : Edge) → Answered house opened (trials e)
-all_answered FilledChain = search rules
-all_answered TwoReaders = search rules
-all_answered LoneReader = search rules
-all_answered EmptyEdit = search rules
-all_answered OneNo = search rules
+pub all_passed : (edge : Edge) → PassesTrials limits_of_five opened_pool (trials edge)
+all_passed FilledChain = search rules
+all_passed TwoReaders = search rules
+all_passed LoneReader = search rules
+all_passed EmptyEdit = search rules
+all_passed OneNo = search rules
 
--- the next call is answered as its trial says, and the trials after it are left
-pub made_call : (allows : Rule) (s : Moment) (ts : List Trial) (calls : List Call) (i : ℕ) (d : Call) → calls ≡ map (λ t. t.call) ts → i < length calls → Answered allows s (drop i ts)
-    → (map (λ t. t.answer) (take (i + 1) ts) ≡ map (λ t. t.answer) (take i ts) ++ by_number number (answer_of allows s (get_or calls i d)) ∷ [])
-    × Answered allows (after_call allows s (get_or calls i d)) (drop (i + 1) ts)
-made_call allows s ts calls i d of inside answered =
-    let t : Trial = d ⇒ Ok Done in
-    let within : i < length ts = omega (arith, ap length of, length-map ts (λ (t : Trial). t.call)) in
-    let x : Trial = get_or ts i t in
-    let is : get_or calls i d ≡ x.call = ap (λ (cs : List Call). get_or cs i d) of ∙ get_or-map (λ (t : Trial). t.call) ts i t d within in
-    let a : Answered allows s (x ∷ drop (i + 1) ts) =
-    subst (Answered allows s) (drop-cons ts i t within ∙ ap (λ (n : ℕ). x ∷ drop n ts) (sym (add-one i))) answered in (
-      ap (map (λ t. t.answer)) (take_more ts i t within)
-          ∙ map-append (λ t. t.answer) (take i ts) (x ∷ [])
-          ∙ ap (λ r. map (λ t. t.answer) (take i ts) ++ r ∷ []) (sym a.0 ∙ ap (λ (c : Call). by_number number (answer_of allows s c)) (sym is)),
-      subst (λ (c : Call). Answered allows (after_call allows s c) (drop (i + 1) ts)) (sym is) a.1,
-    )
+module _ {S R : Type 0} {w : writing_store.Ghosts S} {s : reading_store.Ghosts S} {r : house_rule.Ghosts R} where
+  -- a pool that passes trials by another rule and state, which are its own
+  passes : (pool : Pool S R w s r) (allows : Rule) (state : PoolState) (trials : List Trial)
+      → rule_of pool ≡ allows → state_of pool ≡ state → PassesTrials allows state trials
+      → PassesTrials (rule_of pool) (state_of pool) trials
+  passes pool allows state trials rule means passed =
+      subst (λ (rule : Rule). PassesTrials rule (state_of pool) trials) (sym rule)
+      (subst (λ (now : PoolState). PassesTrials allows now trials) (sym means) passed)
+
+  -- where a pool passes trials, the calls that are made on it answer as they say
+  answered : (trials : List Trial) (old new : Pool S R w s r) (answers : List Answer)
+      → PassesTrials (rule_of old) (state_of old) trials
+      → PerformsEach old (calls_of trials) answers new → AreAnswersOf trials answers
+  answered [] old new [] _ _ = refl
+  answered [] old new (_ ∷ _) _ made = absurd made
+  answered (_ ∷ _) old new [] _ made = absurd made
+  answered (trial ∷ trials) old new (answer ∷ answers) (here, later) (mid, performs, _, made) =
+      let passed = passes mid _ _ trials (ap r.allowed performs.rule) performs.leaves later in
+      ap₂ ◌∷◌
+      (ap (by_number fault_number) performs.answers ∙ here)
+      (answered trials mid new answers passed made)
+
+  -- and so do those of an edge case, on a pool that was opened for them
+  pub played : (edge : Edge) (old new : Pool S R w s r) (calls : List Call) (answers : List Answer)
+      → state_of old ≡ unopened_pool → rule_of old ≡ limits_of_five → calls ≡ calls_of (trials edge)
+      → Runs old 2 calls answers new → AreAnswersOf (trials edge) answers
+  played edge old new calls answers means rule are runs =
+      let opened = runs.opens.leaves ∙ ap (λ (old : PoolState). state_after (open_pool old 2) old) means in
+      let ruled = ap r.allowed runs.opens.rule ∙ rule in
+      answered (trials edge) runs.opened new answers
+      (passes runs.opened _ _ (trials edge) ruled opened (all_passed edge))
+      (subst (λ (made : List Call). PerformsEach runs.opened made answers new) are runs.performs)

@@ -1,33 +1,35 @@
 -- The edge cases of the pool and of what it stands on. A refusal is told by its number.
-use Rattle.std.specs.Prelude.{◌≡◌, ◌+◌, ◌^◌, ◌≤◌, true, false, replicate, List, [], ◌∷◌, ℤ, pos, negsuc, neg_ℤ, Ok, Err, Some, slice_set, codes}
-use Rattle.calls.specs.declared.call.Call.TheVariants.{Begin, Read, Write, Prepare, Vote, Decide, Finish, Close}
+use Rattle.std.specs.Prelude.{◌≡◌, ℕ, ◌+◌, ◌^◌, ◌≤◌, true, false, ℤ, pos, neg_ℤ, codes}
+use Rattle.std.specs.Prelude.{List, [], ◌∷◌, replicate, slice_set, Ok, Err, Result, Some}
+use Rattle.calls.specs.declared.call.Call.TheVariants.{Begin, Read, Write, Prepare, Vote}
+use Rattle.calls.specs.declared.call.Call.TheVariants.{Decide, Finish, Close}
 use Rattle.calls.specs.declared.answer.Reply.TheVariants.{Serial, Value, Voted, Decided, Done}
 use Rattle.calls.specs.declared.answer.Decision.TheVariants.{Commit, Abort}
-use Rattle.calls.specs.Faults.{number}
-use Rattle.store.specs.Refusals.{number as store_number}
+use Rattle.calls.specs.Faults.{fault_number}
+use Rattle.store.specs.Refusals.{refusal_number}
 use Rattle.store.specs.declared.version.Version.{Version}
-use Rattle.store.specs.Meaning.{Writing}
+use Rattle.store.specs.Meaning.{WritingMeaning}
 use Rattle.store.specs.Steps.{stage_answer, stage_after}
-use Rattle.pool.specs.Tables.{moment, fresh}
-use Rattle.pool.specs.Calls.{Rule, answer, open_pool}
-use Rattle.rules.specs.Settings.{entry_allows}
-use Rattle.rules.specs.Limits.{widest, limits_permit}
-use Rattle.rules.specs.Step.{longest_step, step_permits}
-use Rattle.table.specs.Layout.{laid_out}
-use Rattle.session_lines.specs.Grammar.{Reads, InReach, Scaled}
-use Rattle.session_lines.specs.Timescales.{factor}
+use Rattle.pool.specs.Tables.{fresh_table}
+use Rattle.pool.specs.Calls.{Rule, PoolState, answer_of, state_after, open_pool}
+use Rattle.rules.specs.Settings.{settings_count, entry_allows}
+use Rattle.rules.specs.Limits.{limits_of, widest, limits_permit}
+use Rattle.rules.specs.Step.{step_of, longest_step, step_permits}
+use Rattle.table.specs.Cells.{table_laid_out}
+use Rattle.session_lines.specs.Grammar.{InReach, DerivesValue}
 use Rattle.session_lines.specs.declared.timescale.Amount.TheVariants.{Hundred}
 use Rattle.session_lines.specs.declared.timescale.Unit.TheVariants.{Seconds}
 use Rattle.session_lines.specs.declared.timescale.Timescale.{Timescale}
-use Rattle.edges.specs.declared.played.Edge.{Edge}
-use Rattle.edges.specs.declared.played.Edge.TheVariants.{FilledChain, TwoReaders, LoneReader, EmptyEdit, OneNo}
-use Rattle.edges.specs.Trials.{Trial, ◌⇒◌, Answered, by_number, opened}
+use Rattle.edges.specs.declared.cases.Edge.{Edge}
+use Rattle.edges.specs.declared.cases.Edge.TheVariants.{FilledChain, TwoReaders, LoneReader}
+use Rattle.edges.specs.declared.cases.Edge.TheVariants.{EmptyEdit, OneNo}
+use Rattle.edges.specs.Trials.{by_number, Trial, ◌⇒◌, PassesTrials}
 
 -- ------------------------------------------------------------ calls, with what they are to answer
 
 -- one write of a chain of depth 2 commits, and the next is refused, since the chain is full
-abbrev pub filled : List Trial
-filled =
+abbrev pub filled_chain : List Trial
+filled_chain =
     Begin 0 ⇒ Ok (Serial 1)
     ∷ Write 0 0 (pos 7) ⇒ Ok Done
     ∷ Prepare 0 ⇒ Ok Done
@@ -40,8 +42,8 @@ filled =
     ∷ []
 
 -- two seats read, and a write of either is refused, since the other's lock is in the way
-abbrev pub two_read : List Trial
-two_read =
+abbrev pub two_readers : List Trial
+two_readers =
     Begin 0 ⇒ Ok (Serial 1)
     ∷ Begin 1 ⇒ Ok (Serial 1)
     ∷ Read 0 0 ⇒ Ok (Value (pos 0))
@@ -51,8 +53,8 @@ two_read =
     ∷ []
 
 -- the only seat that reads an entry may write it
-abbrev pub one_reads : List Trial
-one_reads =
+abbrev pub lone_reader : List Trial
+lone_reader =
     Begin 0 ⇒ Ok (Serial 1)
     ∷ Read 0 0 ⇒ Ok (Value (pos 0))
     ∷ Write 0 0 (pos 7) ⇒ Ok Done
@@ -60,8 +62,8 @@ one_reads =
     ∷ []
 
 -- an edit that read and wrote nothing commits
-abbrev pub empty : List Trial
-empty =
+abbrev pub empty_edit : List Trial
+empty_edit =
     Begin 0 ⇒ Ok (Serial 1)
     ∷ Prepare 0 ⇒ Ok Done
     ∷ Decide 0 ⇒ Ok (Decided Commit)
@@ -80,25 +82,54 @@ one_no =
     ∷ []
 
 abbrev pub trials : Edge → List Trial
-trials FilledChain = filled
-trials TwoReaders = two_read
-trials LoneReader = one_reads
-trials EmptyEdit = empty
+trials FilledChain = filled_chain
+trials TwoReaders = two_readers
+trials LoneReader = lone_reader
+trials EmptyEdit = empty_edit
 trials OneNo = one_no
 
--- ------------------------------------------------------------ rules and versions
+-- ------------------------------------------------------------ stores, rules and pools
 
--- a rule by limits, in which entry 1 takes values from -5 to 5
-abbrev pub house : Rule
-house = entry_allows limits_permit (slice_set (replicate 64 widest) 1 (record { smallest = negsuc 4; largest = pos 5 }))
-
--- a rule by steps once a step of 5 is set at entry 1
-abbrev pub fives : Rule
-fives = entry_allows step_permits (slice_set (replicate 64 longest_step) 1 (record { 0 = 5 }))
+-- a table just laid out, with two entries of depth 2
+abbrev pub new_table : WritingMeaning
+new_table = table_laid_out 2 2
 
 -- a version of this value, whoever has written it
-abbrev pub valued : ℤ → Version
-valued z = record { value = z; seat = 0; serial = 1 }
+abbrev pub version_with : ℤ → Version
+version_with value = record { value = value; seat = 0; serial = 1 }
+
+-- the value is staged at entry 0 of a new table; and what staging it there answers
+abbrev pub IsStaged : ℤ → Type 0
+IsStaged value = (stage_after new_table 0 (version_with value)).staged 0 ≡ Some (version_with value)
+
+abbrev pub staging_answer : ℤ → Result (Unit {0}) ℕ
+staging_answer value = by_number refusal_number (stage_answer new_table 0 (version_with value))
+
+-- every entry has the first setting but entry 1, which has the second
+abbrev pub settings_but_one : {T : Type 0} → T → T → List T
+settings_but_one common other = slice_set (replicate settings_count common) 1 other
+
+-- a rule by limits, in which entry 1 takes values from -5 to 5
+abbrev pub limits_of_five : Rule
+limits_of_five = entry_allows limits_permit (settings_but_one widest (limits_of (neg_ℤ (pos 5)) (pos 5)))
+
+-- a rule by steps, in which entry 1 has a step of 5
+abbrev pub steps_of_five : Rule
+steps_of_five = entry_allows step_permits (settings_but_one longest_step (step_of 5))
+
+-- a pool just made over a store, and what it answers to being opened for so many seats
+abbrev pub pool_over : WritingMeaning → PoolState
+pool_over store = record { store = store; table = fresh_table 0 }
+
+abbrev pub opening_answer : WritingMeaning → ℕ → Result (Unit {0}) ℕ
+opening_answer store seats = by_number fault_number (answer_of (open_pool (pool_over store) seats))
+
+-- a pool just made over a new table; and the same pool once it is opened for two seats
+abbrev pub unopened_pool : PoolState
+unopened_pool = pool_over new_table
+
+abbrev pub opened_pool : PoolState
+opened_pool = state_after (open_pool unopened_pool 2) unopened_pool
 
 -- the largest timescale of a session
 abbrev pub hundred_seconds : Timescale
@@ -107,24 +138,31 @@ hundred_seconds = record { amount = Hundred; unit = Seconds }
 -- ------------------------------------------------------------ the edge cases
 
 pub record Edges : Type 0 where
-  pub sixteen_seats_open_and_seventeen_are_refused : (m : Writing) → 1 ≤ m.reading.entries
-      → (by_number number (answer (open_pool (moment m (fresh 0)) 16)) ≡ Ok tt)
-      × (by_number number (answer (open_pool (moment m (fresh 0)) 17)) ≡ Err 12)
-  pub one_write_fills_a_chain_of_depth_two : (allows : Rule) → allows 0 (pos 0) (pos 7) ≡ true → Answered allows opened filled
+  pub sixteen_seats_open_and_seventeen_are_refused :
+      (store : WritingMeaning) → 1 ≤ store.reading.entries
+      → (opening_answer store 16 ≡ Ok tt) × (opening_answer store 17 ≡ Err 12)
+  pub one_write_fills_a_chain_of_depth_two :
+      (allows : Rule) → allows 0 (pos 0) (pos 7) ≡ true
+      → PassesTrials allows opened_pool filled_chain
   pub the_reach_is_staged_and_one_more_is_refused :
-      ((stage_after (laid_out 2 2) 0 (valued (pos (10 ^ 17)))).staged 0 ≡ Some (valued (pos (10 ^ 17))))
-      × (by_number store_number (stage_answer (laid_out 2 2) 0 (valued (pos (10 ^ 17 + 1)))) ≡ Err 6)
-      × ((stage_after (laid_out 2 2) 0 (valued (neg_ℤ (pos (10 ^ 17))))).staged 0 ≡ Some (valued (neg_ℤ (pos (10 ^ 17)))))
-      × (by_number store_number (stage_answer (laid_out 2 2) 0 (valued (neg_ℤ (pos (10 ^ 17 + 1))))) ≡ Err 6)
-  pub two_readers_bar_each_other_from_writing : (allows : Rule) → Answered allows opened two_read
-  pub a_lone_reader_may_write : (allows : Rule) → Answered allows opened one_reads
-  pub an_empty_edit_commits : (allows : Rule) → Answered allows opened empty
+      IsStaged (pos (10 ^ 17))
+      × (staging_answer (pos (10 ^ 17 + 1)) ≡ Err 6)
+      × IsStaged (neg_ℤ (pos (10 ^ 17)))
+      × (staging_answer (neg_ℤ (pos (10 ^ 17 + 1))) ≡ Err 6)
+  pub two_readers_bar_each_other_from_writing :
+      (allows : Rule) → PassesTrials allows opened_pool two_readers
+  pub a_lone_reader_may_write :
+      (allows : Rule) → PassesTrials allows opened_pool lone_reader
+  pub an_empty_edit_commits :
+      (allows : Rule) → PassesTrials allows opened_pool empty_edit
   pub a_step_of_five_from_ten_reaches_five_and_fifteen :
-      (fives 1 (pos 10) (pos 5) ≡ true)
-      × (fives 1 (pos 10) (pos 15) ≡ true)
-      × (fives 1 (pos 10) (pos 4) ≡ false)
-      × (fives 1 (pos 10) (pos 16) ≡ false)
-  pub one_no_aborts_although_a_vote_is_missing : (allows : Rule) → allows 1 (pos 0) (pos 6) ≡ false → Answered allows opened one_no
+      (steps_of_five 1 (pos 10) (pos 5) ≡ true)
+      × (steps_of_five 1 (pos 10) (pos 15) ≡ true)
+      × (steps_of_five 1 (pos 10) (pos 4) ≡ false)
+      × (steps_of_five 1 (pos 10) (pos 16) ≡ false)
+  pub one_no_aborts_although_a_vote_is_missing :
+      (allows : Rule) → allows 1 (pos 0) (pos 6) ≡ false
+      → PassesTrials allows opened_pool one_no
   pub one_at_a_hundred_seconds_is_the_reach_and_two_is_beyond :
-      Reads InReach (factor hundred_seconds) (codes "1") (Scaled (pos (10 ^ 17)))
-      × ((z : ℤ) → Reads InReach (factor hundred_seconds) (codes "2") (Scaled z) → ⊥)
+      DerivesValue hundred_seconds (codes "1") InReach (pos (10 ^ 17))
+      × ((femtoseconds : ℤ) → ¬ DerivesValue hundred_seconds (codes "2") InReach femtoseconds)

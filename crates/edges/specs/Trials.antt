@@ -1,17 +1,15 @@
--- Calls with the answers that they are to get, made on a pool that was just opened over a table.
-use Rattle.std.specs.Prelude.{◌≡◌, ℕ, List, [], ◌∷◌, Ok, Err, Result}
+-- Calls with the answers that they are to get.
+use Rattle.std.specs.Prelude.{◌≡◌, ℕ, List, [], ◌∷◌, map, Ok, Err, Result}
 use Rattle.calls.specs.declared.answer.Reply.{Reply}
 use Rattle.calls.specs.declared.call.Call.{Call}
-use Rattle.calls.specs.Faults.{number}
-use Rattle.pool.specs.Tables.{Moment, moment, fresh}
-use Rattle.pool.specs.Calls.{Rule, after, open_pool}
-use Rattle.alone.specs.Runs.{answer_of, after_call}
-use Rattle.table.specs.Layout.{laid_out}
+use Rattle.calls.specs.Answers.{Answer}
+use Rattle.calls.specs.Faults.{fault_number}
+use Rattle.pool.specs.Calls.{Rule, PoolState, answer_of, state_after, perform}
 
 -- an answer in which a refusal is told by its number
 abbrev pub by_number : {T F : Type 0} → (F → ℕ) → Result T F → Result T ℕ
-by_number number (Ok x) = Ok x
-by_number number (Err fault) = Err (number fault)
+by_number number_of (Ok answer) = Ok answer
+by_number number_of (Err refusal) = Err (number_of refusal)
 
 -- a call, and what it is to answer
 pub record Trial : Type 0 where
@@ -22,14 +20,16 @@ infixr 90 ◌⇒◌
 abbrev pub ◌⇒◌ : Call → Result Reply ℕ → Trial
 call ⇒ answer = record { call = call; answer = answer }
 
--- made in their order, the calls get the answers beside them
-abbrev pub Answered : Rule → Moment → List Trial → Type 0
-Answered allows s [] = Unit {0}
-Answered allows s (x ∷ trials) = (by_number number (answer_of allows s x.call) ≡ x.answer) × Answered allows (after_call allows s x.call) trials
+abbrev pub calls_of : List Trial → List Call
+calls_of = map (λ trial. trial.call)
 
--- a pool just made over a table just laid out, with two entries of depth 2; and the same pool once it is opened for two seats
-abbrev pub made : Moment
-made = moment (laid_out 2 2) (fresh 0)
+-- what the calls answered is what they were to answer
+abbrev pub AreAnswersOf : List Trial → List Answer → Type 0
+AreAnswersOf trials answers = map (by_number fault_number) answers ≡ map (λ trial. trial.answer) trials
 
-abbrev pub opened : Moment
-opened = after (open_pool made 2) made
+-- made in their order on a pool, under a house rule, the calls get the answers beside them
+abbrev pub PassesTrials : Rule → PoolState → List Trial → Type 0
+PassesTrials allows state [] = Unit {0}
+PassesTrials allows state (trial ∷ trials) =
+    (by_number fault_number (answer_of (perform allows trial.call state)) ≡ trial.answer)
+    × PassesTrials allows (state_after (perform allows trial.call state) state) trials

@@ -2,11 +2,12 @@
 // and then the chains that they left. Values are in femtoseconds.
 #![tactic(auto)]
 
-use alone::run::run as run_calls;
 use anyhow::Context;
 use calls::call::Call;
 use pool::pool::Pool;
 use rules::range::RangeRule;
+use runner::run::run;
+use store::laying::LayOut;
 use store::reading::ReadingStore;
 use store::text::chain_text;
 use store::version::OPENING;
@@ -38,16 +39,12 @@ const CALLS: [Call; 11] = [
 ];
 
 fn main(rt: HostRuntime) -> anyhow::Result<()> {
-    show(&rt)
-}
-
-fn show(rt: &HostRuntime) -> anyhow::Result<()> {
     let mut store = TableStore::over(vec![in rt.alloc(); OPENING; ENTRIES * DEPTH]?);
     store
         .lay_out(ENTRIES, DEPTH)
         .context("the table could not be laid out")?;
     let mut pool = Pool::new(store, RangeRule::new());
-    let answers = run_calls(rt.alloc(), &mut pool, SEATS, &CALLS)?;
+    let answers = run(rt.alloc(), &mut pool, SEATS, &CALLS)?;
     for (call, answer) in CALLS.iter().zip(answers.iter()) {
         match answer {
             Ok(reply) => println!(rt; "{call}: {reply}")?,

@@ -1,18 +1,15 @@
+use crate::fixture::{a_table, by_number, version};
 use crate::seen::seen_pool;
 use calls::fault::Fault;
 use pool::pool::Pool;
 use rules::range::RangeRule;
 use std::test::Fail;
-use store::version::{OPENING, Version};
 use store::writing::WritingStore;
-use table::TableStore;
 
 // A seat begins a million edits, and no more; another seat goes on. Wrong state comes before serials that are used up.
 #[test]
 fn a_million_edits(rt: HostRuntime) -> Result<(), Fail> {
-    let mut table = TableStore::over(vec![in rt.alloc(); OPENING; 2]?);
-    table.lay_out(1, 2)?;
-    let mut pool = Pool::new(table, RangeRule::new());
+    let mut pool = Pool::new(a_table(rt.alloc(), 2, 1, 2)?, RangeRule::new());
     pool.open(2)?;
     for serial in 1..1_000_000 {
         assert_eq!(rt; pool.begin(0), Ok(serial));
@@ -21,12 +18,7 @@ fn a_million_edits(rt: HostRuntime) -> Result<(), Fail> {
     }
     assert_eq!(rt; pool.begin(0), Ok(1_000_000));
     pool.write(0, 0, 7)?;
-    let last = Version {
-        value: 7,
-        seat: 0,
-        serial: 1_000_000,
-    };
-    assert_eq!(rt; pool.store().staged_at(0), Some(last));
+    assert_eq!(rt; pool.store().staged_at(0), Some(version(7, 0, 1_000_000)));
     let before = seen_pool(&pool);
     assert_eq!(rt; pool.begin(0), Err(Fault::WrongState));
     assert!(rt; seen_pool(&pool) == before);
@@ -34,7 +26,7 @@ fn a_million_edits(rt: HostRuntime) -> Result<(), Fail> {
     pool.finish(0, 0)?;
     pool.close(0)?;
     let before = seen_pool(&pool);
-    let answer = pool.begin(0).map_err(|fault| fault.number());
+    let answer = by_number(pool.begin(0));
     assert_eq!(rt; answer, Err(4));
     assert!(rt; seen_pool(&pool) == before);
     assert_eq!(rt; pool.begin(1), Ok(1));

@@ -1,33 +1,11 @@
+use crate::fixture::{OLD, TOO_FAR, a_table, number, version};
 use crate::seen::seen_table;
 use std::process::Abort;
 use std::test::Fail;
-use store::refusal::Refusal;
+use store::laying::LayOut;
 use store::version::{OPENING, Version};
 use store::writing::WritingStore;
 use table::TableStore;
-
-// One farther from 0 than a value may lie.
-const TOO_FAR: i64 = 100_000_000_000_000_001;
-
-// What each cell holds before a table is laid out.
-const OLD: Version = Version {
-    value: 77,
-    seat: 7,
-    serial: 777,
-};
-
-fn version(value: i64, seat: u8, serial: u32) -> Version {
-    Version {
-        value,
-        seat,
-        serial,
-    }
-}
-
-// A refusal by its number.
-fn number(answer: Result<(), Refusal>) -> Result<(), u8> {
-    answer.map_err(|refusal| refusal.number())
-}
 
 fn expect_stage(
     rt: &impl Abort,
@@ -49,8 +27,7 @@ fn expect_stage(
 // No such entry, then no such author, then a value that is too far, then a full chain. Entry 0 is full, entry 1 is not.
 #[test]
 fn staging(rt: HostRuntime) -> Result<(), Fail> {
-    let mut table = TableStore::over(vec![in rt.alloc(); OLD; 5]?);
-    table.lay_out(2, 2)?;
+    let mut table = a_table(rt.alloc(), 5, 2, 2)?;
     table.stage(0, version(1, 1, 1))?;
     table.publish(0)?;
     let cases = [
@@ -117,8 +94,7 @@ fn publishing_and_withdrawing(rt: HostRuntime) -> Result<(), Fail> {
 // A size out of range, then too few cells. A refused table is laid out as before, and what is staged there stays.
 #[test]
 fn laying_out(rt: HostRuntime) -> Result<(), Fail> {
-    let mut table = TableStore::over(vec![in rt.alloc(); OLD; 5]?);
-    table.lay_out(1, 4)?;
+    let mut table = a_table(rt.alloc(), 5, 1, 4)?;
     table.stage(0, version(4, 2, 9))?;
     let before = seen_table(&table);
     let cases = [

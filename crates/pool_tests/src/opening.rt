@@ -1,9 +1,11 @@
+use crate::fixture::{a_table, by_number};
 use crate::seen::seen_pool;
-use alone::run::{Stop, run};
 use calls::call::Call;
+use calls::failure::Failure;
 use calls::fault::Fault;
 use pool::pool::Pool;
 use rules::range::RangeRule;
+use runner::run::run;
 use std::alloc::Global;
 use std::test::Fail;
 use store::version::{OPENING, Version};
@@ -17,9 +19,8 @@ const STAGED: Version = Version {
 };
 
 // Over a table with a version staged at entry 1.
-fn a_pool(heap: Global) -> Result<Pool<TableStore, RangeRule>, Fail> {
-    let mut table = TableStore::over(vec![in heap; OPENING; 6]?);
-    table.lay_out(2, 3)?;
+fn a_pool(alloc: Global) -> Result<Pool<TableStore, RangeRule>, Fail> {
+    let mut table = a_table(alloc, 6, 2, 3)?;
     table.stage(1, STAGED)?;
     Ok(Pool::new(table, RangeRule::new()))
 }
@@ -38,7 +39,7 @@ fn seats(rt: HostRuntime) -> Result<(), Fail> {
         let mut pool = a_pool(rt.alloc())?;
         let before = seen_pool(&pool);
         assert_eq!(rt; pool.begin(0), Err(Fault::NoSuchSeat));
-        let answer = pool.open(seats).map_err(|fault| fault.number());
+        let answer = by_number(pool.open(seats));
         assert_eq!(rt; answer, if opens { Ok(()) } else { Err(12) }, "{seats}");
         assert_eq!(rt; seen_pool(&pool) == before, !opens, "{seats}");
         let staged = if opens { None } else { Some(STAGED) };
@@ -82,7 +83,7 @@ fn a_run(rt: HostRuntime) -> Result<(), Fail> {
     let before = seen_pool(&pool);
     let calls = [Call::Begin { seat: 0 }];
     let stopped = run(rt.alloc(), &mut pool, 17, &calls).err();
-    assert_eq!(rt; stopped, Some(Stop::Refused(Fault::CannotOpen)));
+    assert_eq!(rt; stopped, Some(Failure::Refused(Fault::CannotOpen)));
     assert!(rt; seen_pool(&pool) == before);
     assert!(rt; run(rt.alloc(), &mut pool, 1, &calls).is_ok());
     Ok(())
