@@ -1,5 +1,0 @@
-pub mod Bring
-pub mod Numbers
-pub mod Line
-pub mod Report
-pub mod Texts
