@@ -1,11 +1,26 @@
 #!/usr/bin/env python3
 """Plants the bugs of a list one at a time in a copy of the repository, and says what becomes of each.
 
-    tools/plant.py tools/planted.txt COPY OUTCOMES [CRATE..]
+    tools/plant.py LIST                                                 only tells which bugs no longer fit the code
+    tools/plant.py LIST COPY OUTCOMES [CRATE..]
+    tools/plant.py tools/planted.txt /tmp/copy /tmp/outcomes            all bugs of the list
+    tools/plant.py tools/planted_edits.txt /tmp/copy /tmp/edits pool    must-fail edits that the gate tries no more, those of pool
 
 A bug is a block of lines: name, crate, what (the bug in words), file (in the crate), and one or more pairs of old and new. A text is one line,
-in which \\n stands for the end of a line, and \\\\n for those two signs; each old text stands in its file exactly once. The bug's crate is checked first, and where it proves,
-the crates above it; where those prove too, their programs and tests are run. COPY is made from the folder above this one, and kept between runs.
+in which \\n stands for the end of a line, and \\\\n for those two signs; each old text stands in its file exactly once.
+
+The bug's crate is checked first, and where it proves, the crates above it; where those prove too, their programs and tests are run. COPY is made
+from the folder above this one, and kept between runs: remove it once that folder has changed. OUTCOMES gets a line for each bug, and a
+second run goes on behind the last: name, crate, outcome, the crate in which it was noticed, the line of the log that tells, seconds. An outcome is
+
+    refused by the proof     a check failed; read OUTCOMES.log, since a goal that is only named otherwise tells nothing
+    caught only by a test    all proves, and a test or a program's wanted output fails
+    caught by nothing        all proves and passes: a contract to strengthen, or a bug that means the same
+    does not fit             an old text does not stand in its file exactly once: bring the list up to the code
+    does not compile         the new text is no program
+    no verdict               the check itself gave up
+
+With PLANT_LOCK=FILE each check waits for that lock. An edit is taken back into the gate by moving its block into a file of its crate's must-fail/.
 """
 import os
 import re
@@ -101,14 +116,24 @@ def has_tests(copy, crate):
     return False
 
 
-def outcome(copy, deps, bug, logs):
-    path = os.path.join(copy, "crates", bug["crate"], bug["file"])
+def planted(path, bug):
+    """The file as it stands, the file with the bug in it, and why it does not fit, if it does not."""
+    if not os.path.exists(path):
+        return "", "", "no such file: %s" % bug["file"]
     before = open(path, encoding="utf-8").read()
     text = before
     for old, new in bug["pairs"]:
         if text.count(old) != 1:
-            return "does not fit", bug["crate"], "stands %d times: %s" % (text.count(old), old)
+            return before, text, "stands %d times: %s" % (text.count(old), old)
         text = text.replace(old, new)
+    return before, text, None
+
+
+def outcome(copy, deps, bug, logs):
+    path = os.path.join(copy, "crates", bug["crate"], bug["file"])
+    before, text, misfit = planted(path, bug)
+    if misfit:
+        return "does not fit", bug["crate"], misfit
     try:
         open(path, "w", encoding="utf-8").write(text)
         subprocess.run(["rt", "fmt"], cwd=os.path.join(copy, "crates", bug["crate"]), stdout=subprocess.DEVNULL, stderr=subprocess.DEVNULL)
@@ -137,7 +162,20 @@ def outcome(copy, deps, bug, logs):
         open(path, "w", encoding="utf-8").write(before)
 
 
+def fits(listed):
+    misfits = 0
+    for bug in blocks(listed):
+        misfit = planted(os.path.join(TOP, "crates", bug["crate"], bug["file"]), bug)[2]
+        if misfit:
+            misfits += 1
+            print("%s: %s: %s" % (bug["crate"], bug["name"], misfit))
+    print("%d do not fit" % misfits)
+    return 1 if misfits else 0
+
+
 def main():
+    if len(sys.argv) == 2:
+        sys.exit(fits(sys.argv[1]))
     listed, copy, outcomes, only = sys.argv[1], os.path.abspath(sys.argv[2]), sys.argv[3], sys.argv[4:]
     if not os.path.isdir(copy):
         subprocess.run(["cp", "-r", TOP, copy], check=True)
