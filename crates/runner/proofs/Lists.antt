@@ -38,13 +38,19 @@ module _ {S R : Type 0} {w : writing_store.Ghosts S} {s : reading_store.Ghosts S
   each_answered old new (c ∷ calls) [] e = absurd e
   each_answered old new (c ∷ calls) (b ∷ answers) e = let i : length answers ≡ length calls = each_answered e.0 new calls answers e.3 in omega arith
 
-  -- the house rule stays, and what led to the first pool leads on to the last
-  pub each_rule : (old new : Pool S R w s r) (calls : List Call) (answers : List Answer) → PerformsEach old calls answers new → rule_of new ≡ rule_of old
-  each_rule old new [] [] e = ap (λ (x : Pool S R w s r). rule_of x) e
-  each_rule old new [] (b ∷ answers) e = absurd e
-  each_rule old new (c ∷ calls) [] e = absurd e
-  each_rule old new (c ∷ calls) (b ∷ answers) e = each_rule e.0 new calls answers e.3 ∙ ap r.allowed e.1.rule
+  -- the house rule stays, the very one and so its meaning
+  pub each_same_rule : (old new : Pool S R w s r) (calls : List Call) (answers : List Answer)
+      → PerformsEach old calls answers new → new.rule ≡ old.rule
+  each_same_rule old new [] [] e = ap (λ (x : Pool S R w s r). x.rule) e
+  each_same_rule old new [] (b ∷ answers) e = absurd e
+  each_same_rule old new (c ∷ calls) [] e = absurd e
+  each_same_rule old new (c ∷ calls) (b ∷ answers) e =
+      each_same_rule e.0 new calls answers e.3 ∙ e.1.rule
 
+  pub each_rule : (old new : Pool S R w s r) (calls : List Call) (answers : List Answer) → PerformsEach old calls answers new → rule_of new ≡ rule_of old
+  each_rule old new calls answers e = ap r.allowed (each_same_rule old new calls answers e)
+
+  -- what led to the first pool leads on to the last
   pub each_reached : (old new : Pool S R w s r) (calls : List Call) (answers : List Answer) → PerformsEach old calls answers new
       → (allows : Rule) (initial : PoolState) (seats : ℕ) (past : List Operation) → rule_of old ≡ allows → Reached allows initial seats past (state_of old)
       → Reached allows initial seats (history past calls answers) (state_of new)

@@ -1,5 +1,5 @@
 -- Calls made on a pool one after another, and the promise of them.
-use Rattle.std.specs.Prelude.{◌≡◌, ℕ, ◌≤◌, Bool, List, [], ◌∷◌, Ok, Err, IsOk}
+use Rattle.std.specs.Prelude.{◌≡◌, ℕ, ◌≤◌, Bool, List, [], ◌∷◌, length, Ok, Err, IsOk}
 use Rattle.calls.specs.declared.call.Call.{Call}
 use Rattle.calls.specs.declared.fault.Fault.{Fault}
 use Rattle.calls.specs.Answers.{Answer}
@@ -59,12 +59,15 @@ module _ {S R : Type 0} {w : writing_store.Ghosts S} {s : reading_store.Ghosts S
       × PerformsEach mid calls answers new
   PerformsEach _ _ _ _ = ⊥
 
-  -- the pool was opened, and then the calls were made
+  -- The pool was opened, and then the calls were made. There are as many answers as calls,
+  -- and the house rule is as it was.
   pub record Runs (old : Pool S R w s r) (seats : ℕ) (calls : List Call) (answers : List Answer) (new : Pool S R w s r) : Type 0 where
     pub opened : Pool S R w s r
     pub opens : Performs old (λ state. open_pool state seats) (Ok tt) opened
     pub withdraws : WithdrawsAll old opened
     pub performs : PerformsEach opened calls answers new
+    pub each : length answers ≡ length calls
+    pub rule : new.rule ≡ old.rule
     pub reached : Reached (rule_of old) (state_of old) seats (history [] calls answers) (state_of new)
 
   -- every edit in the calls is as if made alone

@@ -174,6 +174,9 @@ module _ {S R : Type 0} {w : writing_store.Ghosts S} {s : reading_store.Ghosts S
       record {
         answers = made.answers;
         performs = made.performs;
+        leaves = left.0;
+        answered = left.1;
+        rule = left.2;
         gone = gone;
         accepted = λ initial seats past k. subst (All IsOk) (sym left.1)
             (⊎_elim

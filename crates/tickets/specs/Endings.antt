@@ -162,11 +162,17 @@ module _ {S R : Type 0} {w : writing_store.Ghosts S} {s : reading_store.Ghosts S
       (initial : PoolState) (seats : ℕ) (past : List Operation) → Reached (rule_of pool) initial seats past (state_of pool)
       → Says initial seats past
 
-  -- The calls were made, and no others, and this became of the edit; gone means that there were none. Where the pool was opened and
-  -- then called, each call is accepted, they count as made, with the promise, and the seat of an edit that is not gone is free.
+  -- The calls were made, and no others, and this became of the edit; gone means that there were none.
+  -- The state is the one that these calls lead to, made in their order on the pool that was there;
+  -- they answered what they answer there, one after another; and the house rule is as it was.
+  -- Where the pool was opened and then called, each call is accepted, they count as made, with the
+  -- promise, and the seat of an edit that is not gone is free.
   pub record EndsBy (old : Pool S R w s r) (ticket : Ticket) (calls : List Call) (outcome : Outcome) (new : Pool S R w s r) : Type 0 where
     pub answers : List Answer
     pub performs : PerformsEach old calls answers new
+    pub leaves : state_of new ≡ state_after_calls (rule_of old) calls (state_of old)
+    pub answered : answers ≡ answers_to (rule_of old) calls (state_of old)
+    pub rule : new.rule ≡ old.rule
     pub gone : outcome ≡ O.Gone → new ≡ old
     pub accepted : OfEachPast old (λ _ _ _. All IsOk answers)
     pub reached : OfEachPast old (λ initial seats past. Reached (rule_of old) initial seats (history past calls answers) (state_of new))

@@ -1,6 +1,6 @@
-use Rattle.std.proofs.Common.{[], vec_items, ap}
+use Rattle.std.proofs.Common.{[], vec_items, ap, ◌∙◌}
 use Rattle.pool.specs.Pools.{state_of, rule_of}
-use Rattle.runner.proofs.Lists.{each_reached, opens_reached}
+use Rattle.runner.proofs.Lists.{each_answered, each_same_rule, each_reached, opens_reached}
 use Rattle.runner.proofs.Whole.{alone}
 use Rattle.runner.proofs.run.run.Goals as goal
 
@@ -18,6 +18,8 @@ returns g c =
         opens = opens;
         withdraws = c.in_ok-open.ensures.memory;
         performs = c.perform_each.ensures;
+        each = each_answered c.open.new.self c.perform_each.new.pool calls answers c.perform_each.ensures;
+        rule = each_same_rule c.open.new.self c.perform_each.new.pool calls answers c.perform_each.ensures ∙ opens.rule;
         reached = reached;
       };
       refused = tt;
