@@ -69,9 +69,9 @@ impl LayOut for JournalStore {
 
     fn lay_out(&mut self, entries: usize, depth: usize) -> Result<(), Refusal> {
         WIDEST.check(self.bytes.len() / RECORD_SIZE, entries, depth)?;
+        self.slots.lay_out(entries, depth)?;
         self.lasts = put_openings(&mut self.bytes, entries);
         self.count = entries;
-        self.slots = Slots::laid_out(REACH, entries, depth);
         Ok(())
     }
 }

@@ -1,5 +1,5 @@
 -- What a run of the calls on a pool says of a session.
-use Rattle.std.proofs.Common.{◌≡◌, ℕ, List, [], ◌∷◌, length, suc, Ok, Err, Result, inl, inr, refl, ap, subst}
+use Rattle.std.proofs.Common.{◌≡◌, List, [], ◌∷◌, length, suc, Ok, Err, Result, inl, inr, refl, ap, subst}
 use Rattle.std.specs.Prelude.{IfErr, IsErrAnd}
 use Rattle.calls.specs.Answers.{Answer}
 use Rattle.calls.specs.Failures.{IfRefused, IsToldAs}
@@ -20,12 +20,8 @@ use Rattle.promise.specs.Histories.{history}
 use Rattle.runner.specs.Runs.{Reached, IsAloneBetween, PerformsEach, Runs, RunsAlone}
 use Rattle.session_lines.specs.declared.fault.Cause.{Cause}
 use Rattle.session_lines.specs.declared.fault.Cause.TheVariants.{Pool as by_pool}
-use Rattle.session_lines.specs.declared.fault.SessionFault.{SessionFault}
 use Rattle.session_lines.specs.declared.sizes.Sizes.{Sizes}
-use Rattle.session_lines.specs.declared.timescale.Timescale.{Timescale}
-use Rattle.session_file.specs.Files.{Derives, sizes_line}
-use Rattle.session_file.specs.declared.session.LineCall.{LineCall}
-use Rattle.session_run.specs.Sessions.{cells, allowed, start, AnswersTo, CannotStart, FailsFor}
+use Rattle.session_run.specs.Sessions.{cells, allowed, start, AnswersTo, CannotStart}
 
 module _ {S R : Type 0} {w : writing_store.Ghosts S} {s : reading_store.Ghosts S} {r : house_rule.Ghosts R} where
   -- each call has an answer
@@ -64,12 +60,3 @@ refused_by_pool (Err (Refused cause)) sizes state (Refused fault) laid same_star
     inr (fault, laid, subst (λ m. answer_of (open_pool m sizes.seats) ≡ Err fault) same_start opening, h)
 refused_by_pool (Err (Refused cause)) sizes state NoMemory laid same_start opening h = absurd h
 refused_by_pool (Err NoMemory) sizes state failure laid same_start opening h = tt
-
--- such a refusal, told on the line of the sizes
-pub on_sizes_line : (Tells : Cause → SessionFault → Type 0) (file : List ℕ) (t : Timescale) (sizes : Sizes) (calls : List LineCall) (failure : Failure Cause) (result : Failure SessionFault)
-    → ((cause : Cause) (fault : SessionFault) → Tells cause fault → fault ≡ record { line = sizes_line; cause = cause })
-    → Derives file t sizes calls → IfRefused (CannotStart sizes) failure → IsToldAs Tells failure result → IfRefused (FailsFor file) result
-on_sizes_line Tells file t sizes calls (Refused cause) (Refused fault) tells derives why told = rw (tells cause fault told) (inr (t, sizes, calls, derives, refl, why))
-on_sizes_line Tells file t sizes calls (Refused cause) NoMemory tells derives why told = tt
-on_sizes_line Tells file t sizes calls NoMemory (Refused fault) tells derives why told = absurd told
-on_sizes_line Tells file t sizes calls NoMemory NoMemory tells derives why told = tt

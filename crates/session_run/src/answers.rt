@@ -1,4 +1,4 @@
-ghost use Rattle.std.specs.Prelude.{◌≡◌, IfOk, Some, length, string_bytes};
+ghost use Rattle.std.specs.Prelude.{◌≡◌, IfOk, Some, string_bytes};
 ghost use Rattle.session_run.specs.Texts.{answer_text, answer_lines};
 
 use calls::answer::Answer;
@@ -32,20 +32,19 @@ impl fmt::Display for LineAnswer {
     }
 }
 
-/// The answers to the calls of a session, each on a line of its own.
+/// The answers to the calls of a session, each on a line of its own. A call that has no answer has no line.
 pub fn answers_text(
     heap: Global,
     calls: &[LineCall],
     answers: &[Answer],
 ) -> Result<String, AllocError>
-    requires { length answers.now ≡ length calls.now }
     ensures { IfOk result (λ text. string_bytes text ≡ answer_lines calls.now answers.now) }
 {
     let mut text = String::new(heap);
-    for (index, call) in calls.iter().enumerate() {
+    for (call, answer) in calls.iter().zip(answers) {
         let answered = LineAnswer {
             line: call.line,
-            answer: answers[index],
+            answer: *answer,
         };
         writeln!(text, "{answered}")?;
     }

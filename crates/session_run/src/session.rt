@@ -41,7 +41,8 @@ fn run_file(heap: Global, file: &[u8]) -> Result<String, Failure<SessionFault>>
     let Session { sizes, calls, .. } = read_session(heap, file)?;
     let answers = match run_calls(heap, sizes, &calls) {
         Ok(answers) => answers,
-        Err(failure) => return Err(failure.map(|cause| cause.on_line(SIZES_LINE))),
+        Err(Failure::Refused(cause)) => return Err(Failure::Refused(cause.on_line(SIZES_LINE))),
+        Err(Failure::NoMemory) => return Err(Failure::NoMemory),
     };
     let text = answers_text(heap, &calls, &answers)?;
     Ok(text)

@@ -1,5 +1,5 @@
 -- What a change of one slot is to a store's meaning.
-use Rattle.std.proofs.Common.{◌≡◌, ℕ, ◌+◌, ◌<◌, cond, eqb, ltb, Bool, true, false, List, [], ◌∷◌, ◌++◌, is_some, Some, None, Ok, Err, Option, OnOk, OnErr, refl, sym, ap, subst, ◌∙◌, ⊎_elim}
+use Rattle.std.proofs.Common.{◌≡◌, ℕ, ◌+◌, ◌<◌, cond, eqb, ltb, Bool, true, false, List, [], ◌∷◌, ◌++◌, is_some, Some, None, Ok, Err, Option, Result, OnOk, OnErr, refl, sym, ap, subst, ◌∙◌, ⊎_elim}
 use mathlib.Core.Path.{fun_ext}
 use Rattle.std.proofs.lemmas.Bool.{cases_eq, cases_lt, cond-true, cond-false, eq-eqb, ne_eqb, le-ltb}
 use Rattle.store.specs.declared.version.Version.{Version}
@@ -11,7 +11,7 @@ use Rattle.store.specs.Steps.{StoreAnswer, has_author, is_within, unless_refused
 use Rattle.store.specs.Slot.{MayFollow}
 use Rattle.store.specs.SlotLaws.{slot_inside, len_room}
 use Rattle.store.specs.Laying.{opening_chains, laid_out_meaning}
-use Rattle.store.specs.Slots.{len_at, staged_at, staged_answer, ready_answer, without_version, stage_slots_answer, PutsSlot, AreLaidOut, writing_by, CountsChains}
+use Rattle.store.specs.Slots.{len_at, staged_at, staged_answer, ready_answer, without_version, stage_slots_answer, PutsSlot, CountsStaged, AreLaidOut, writing_by, CountsChains}
 
 -- what is staged, and what publish and withdraw answer
 answer_ready : (b : Bool) (o : Option Version) → without_version (cond b (staged_answer o) (Err NoSuchEntry)) ≡ cond b (cond (is_some o) (Ok tt) (Err NothingStaged)) (Err NoSuchEntry)
@@ -46,6 +46,10 @@ module _ (slots : Slots) (entry : ℕ) (version : Version) (ready : Ok version �
 
   pub ready_room : len_at slots entry < slots.depth
   ready_room = len_room slots entry (ap is_some ready_staged)
+
+  -- what publishing leaves there
+  pub ready_counted : (new : Slots) → OnOk (ready_answer slots entry) (CountsStaged slots entry new) → CountsStaged slots entry new
+  ready_counted new counted = subst (λ (answer : Result Version Refusal). OnOk answer (CountsStaged slots entry new)) (sym ready) counted
 
 -- lengths where one entry keeps its own, and where it grows
 pub lens_kept : (old new : Slots) (entry : ℕ) (staged : Option Version) → PutsSlot old entry (len_at old entry) staged new → (k : ℕ) → len_at new k ≡ len_at old k

@@ -1,10 +1,11 @@
 -- What a store means by its slots and its chains.
-use Rattle.std.specs.Prelude.{◌≡◌, ℕ, if◌then◌else◌, List, length, Some, None, Option, Result, Ok, Err, ◌==◌, nat_lt, slice_index_or}
+use Rattle.std.specs.Prelude.{◌≡◌, ℕ, ◌+◌, if◌then◌else◌, List, length, Some, None, Option, Result, Ok, Err, ◌==◌, nat_lt, slice_index_or, Bool, nat_le, ◌&&◌}
 use Rattle.store.specs.declared.version.Version.{Version}
 use Rattle.store.specs.declared.refusal.Refusal.{Refusal}
-use Rattle.store.specs.declared.refusal.Refusal.TheVariants.{NoSuchEntry, ValueBeyondReach, ChainFull, NothingStaged, NoSuchAuthor}
+use Rattle.store.specs.declared.refusal.Refusal.TheVariants.{NoSuchEntry, ValueBeyondReach, ChainFull, SizeOrSetting, NothingStaged, NoSuchAuthor}
 use Rattle.store.specs.declared.slots.Slot.{Slot}
 use Rattle.store.specs.declared.slots.Slots.{Slots}
+use Rattle.store.specs.Numbers.{most_entries, least_depth, most_depth}
 use Rattle.store.specs.Meaning.{ReadingMeaning, WritingMeaning}
 use Rattle.store.specs.Steps.{StoreAnswer, has_author, is_within}
 use Rattle.store.specs.Slot.{blank_slot}
@@ -56,6 +57,17 @@ pub record PutsSlot (old : Slots) (entry len : ℕ) (staged : Option Version) (n
 -- one entry has this staged version now, or none
 abbrev pub Restages : Slots → ℕ → Option Version → Slots → Type 0
 Restages old entry staged new = PutsSlot old entry (len_at old entry) staged new
+
+-- what was staged there is one version more of its chain
+abbrev pub CountsStaged : Slots → ℕ → Slots → Type 0
+CountsStaged old entry new = PutsSlot old entry (len_at old entry + 1) None new
+
+-- sizes that a store may have; with no entries too, as before it is laid out
+abbrev pub slots_fit : ℕ → ℕ → Bool
+slots_fit entries depth = nat_le entries most_entries && nat_le least_depth depth && nat_le depth most_depth
+
+abbrev pub slots_answer : ℕ → ℕ → StoreAnswer
+slots_answer entries depth = if slots_fit entries depth then Ok tt else Err SizeOrSetting
 
 -- each entry has its opening version alone, and nothing is staged
 pub record AreLaidOut (reach entries depth : ℕ) (slots : Slots) : Type 0 where

@@ -1,5 +1,4 @@
-ghost use Rattle.std.specs.Prelude.{◌≡◌, ◌≤◌};
-ghost use Rattle.store.specs.Numbers.{most_entries, most_depth};
+ghost use Rattle.std.specs.Prelude.{◌≡◌};
 ghost use Rattle.store.specs.Laying.{sizes_fit, lay_out_answer};
 
 use crate::refusal::Refusal;
@@ -38,16 +37,15 @@ impl SizeLimits {
 
     /// What laying out answers in a store with room for so many versions.
     pub fn check(self, room: usize, entries: usize, depth: usize) -> Result<(), Refusal>
-        requires few { self.most_entries ≤ most_entries }
-        requires shallow { self.most_depth ≤ most_depth }
         ensures { result ≡ lay_out_answer self room entries depth }
     {
         if !self.fit(entries, depth) {
             return Err(Refusal::SizeOrSetting);
         }
-        if room < entries * depth {
-            return Err(Refusal::MemoryTooShort);
+        // More versions than a number can count fit into no memory.
+        match entries.checked_mul(depth) {
+            Some(versions) if versions <= room => Ok(()),
+            _ => Err(Refusal::MemoryTooShort),
         }
-        Ok(())
     }
 }

@@ -4,7 +4,7 @@ ghost use Rattle.store.specs.Numbers.{most_entries, least_depth, most_depth};
 ghost use Rattle.store.specs.Slot.{IsSoundSlot, blank_slot};
 
 use crate::refusal::Refusal;
-use crate::sizes::{LEAST_DEPTH, MOST_ENTRIES};
+use crate::sizes::{LEAST_DEPTH, MOST_DEPTH, MOST_ENTRIES};
 use crate::version::Version;
 
 /// What a store keeps of an entry beside its memory: how many versions its chain has, and what is staged.
@@ -44,8 +44,8 @@ pub struct Slots {
 }
 
 impl Slots {
-    ghost use Rattle.std.specs.Prelude.{◌+◌, Some, None, OnOk, OnErr, IsTrue, is_some};
-    ghost use Rattle.store.specs.Slots.{slot_at, len_at, staged_at, ready_answer, without_version, stage_slots_answer, PutsSlot, Restages, AreLaidOut};
+    ghost use Rattle.std.specs.Prelude.{Some, None, OnOk, OnErr};
+    ghost use Rattle.store.specs.Slots.{len_at, staged_at, ready_answer, without_version, stage_slots_answer, slots_answer, CountsStaged, Restages, AreLaidOut};
 
     /// Of a store that is not laid out: no entries.
     pub fn blank(reach: u64) -> Slots
@@ -61,19 +61,20 @@ impl Slots {
         }
     }
 
-    /// Of a store just laid out: each entry has its opening version alone.
-    pub fn laid_out(reach: u64, entries: usize, depth: usize) -> Slots
-        requires few { entries ≤ most_entries }
-        requires deep { least_depth ≤ depth }
-        requires shallow { depth ≤ most_depth }
-        ensures { AreLaidOut reach entries depth result }
+    /// Gives each entry its opening version alone, and drops what is staged. Refused where no store may have so many entries or
+    /// such a depth.
+    pub fn lay_out(&mut self, entries: usize, depth: usize) -> Result<(), Refusal>
+        ensures answer { result ≡ slots_answer entries depth }
+        ensures leaves { OnOk result (AreLaidOut self.old.reach entries depth self.new) }
+        ensures refused { OnErr result (self.new ≡ self.old) }
     {
-        Slots {
-            entries,
-            depth,
-            reach,
-            slots: [Slot::LAID_OUT; MOST_ENTRIES],
+        if entries > MOST_ENTRIES || !(LEAST_DEPTH..=MOST_DEPTH).contains(&depth) {
+            return Err(Refusal::SizeOrSetting);
         }
+        self.entries = entries;
+        self.depth = depth;
+        self.slots = [Slot::LAID_OUT; MOST_ENTRIES];
+        Ok(())
     }
 
     /// How many versions the chain of an entry has; 0 where there is no such entry.
@@ -126,17 +127,18 @@ impl Slots {
         Ok(())
     }
 
-    /// Counts what is staged to the chain of its entry.
+    /// Counts what is staged to the chain of its entry. Where nothing is ready to be published, nothing changes.
     pub fn publish(&mut self, entry: usize)
-        requires entry { entry < self.old.entries }
-        requires staged { IsTrue (is_some (staged_at self.old entry)) }
-        ensures { PutsSlot self.old entry (len_at self.old entry + 1) None self.new }
+        ensures ready { OnOk (ready_answer self.old entry) (CountsStaged self.old entry self.new) }
+        ensures unready { OnErr (ready_answer self.old entry) (self.new ≡ self.old) }
     {
-        let len = self.slots[entry].len;
-        self.slots[entry] = Slot {
-            len: len + 1,
-            staged: None,
-        };
+        if self.ready(entry).is_ok() {
+            let len = self.slots[entry].len;
+            self.slots[entry] = Slot {
+                len: len + 1,
+                staged: None,
+            };
+        }
     }
 
     /// Drops what is staged beside the chain of an entry.

@@ -48,8 +48,8 @@ impl LayOut for TableStore {
 
     fn lay_out(&mut self, entries: usize, depth: usize) -> Result<(), Refusal> {
         WIDEST.check(self.cells.len(), entries, depth)?;
+        self.slots.lay_out(entries, depth)?;
         put_openings(&mut self.cells, entries, depth);
-        self.slots = Slots::laid_out(REACH, entries, depth);
         Ok(())
     }
 }

@@ -1,16 +1,19 @@
-use Rattle.table.proofs.Laid.{laid_room, laid_first, laid_means}
-use Rattle.std.proofs.Common.{◌≡◌, length, ap, sym, ◌∙◌, arith}
+use Rattle.std.proofs.Common.{◌≡◌, length, ap, sym, subst, ◌∙◌, arith}
 use Rattle.store.specs.Laying.{lay_out_answer, laid_out_meaning, widest_sizes}
+use Rattle.store.specs.Slots.{AreLaidOut}
 use Rattle.table.specs.Stores.{cells_of}
+use Rattle.table.proofs.Laid.{laid_room, laid_first, laid_means}
 use Rattle.table.proofs.layout.TableStoreLayOut.lay_out.Goals as goal
 
-pub invariant_of-self-clause-room : goal.invariant_of-self-clause-room
-invariant_of-self-clause-room c =
-    laid_room c.args.self.now.cells c.put_openings.new.cells c.laid_out-self.result c.args.entries c.args.depth (cc) c.laid_out-self.ensures (grind arith)
+pub invariant_of-self-2-clause-room : goal.invariant_of-self-2-clause-room
+invariant_of-self-2-clause-room c =
+    let laid = subst (λ reach. AreLaidOut reach c.args.entries c.args.depth c.lay_out.new.self) c.args.self.now.reach c.in_ok-lay_out.ensures.leaves in
+    laid_room c.args.self.now.cells c.put_openings.new.cells c.lay_out.new.self c.args.entries c.args.depth (cc) laid (grind arith)
 
-pub invariant_of-self-clause-first : goal.invariant_of-self-clause-first
-invariant_of-self-clause-first c =
-    laid_first c.args.self.now.cells c.put_openings.new.cells c.laid_out-self.result c.args.entries c.args.depth (cc) c.laid_out-self.ensures (grind arith) (grind arith)
+pub invariant_of-self-2-clause-first : goal.invariant_of-self-2-clause-first
+invariant_of-self-2-clause-first c =
+    let laid = subst (λ reach. AreLaidOut reach c.args.entries c.args.depth c.lay_out.new.self) c.args.self.now.reach c.in_ok-lay_out.ensures.leaves in
+    laid_first c.args.self.now.cells c.put_openings.new.cells c.lay_out.new.self c.args.entries c.args.depth (cc) laid (grind arith) (grind arith)
 
 pub returns-clause-answer : goal.returns-clause-answer
 returns-clause-answer c =
@@ -23,5 +26,6 @@ returns-clause-means c =
     let s = c.args.self.now in
     let m = c.args.entries in
     let d = c.args.depth in
-    laid_means s.cells c.put_openings.new.cells c.laid_out-self.result m d (cc) c.laid_out-self.ensures (grind arith) (grind arith)
+    let laid = subst (λ reach. AreLaidOut reach m d c.lay_out.new.self) s.reach c.in_ok-lay_out.ensures.leaves in
+    laid_means s.cells c.put_openings.new.cells c.lay_out.new.self m d (cc) laid (grind arith) (grind arith)
     ∙ ap (λ reach. laid_out_meaning reach m d) (sym s.reach)
