@@ -12,7 +12,6 @@ use rules::range::RangeRule;
 use std::io;
 use store::laying::LayOut;
 use store::reading::ReadingStore;
-use store::text::chain_text;
 use store::version::OPENING;
 use table::TableStore;
 use tickets::outcome::Outcome;
@@ -56,8 +55,8 @@ fn show(rt: &HostRuntime) -> anyhow::Result<()> {
     print!(rt; "move -1000000: ")?;
     tell(rt, move_slack(&mut pool, 0, -1_000_000))?;
     for entry in 0..pool.store().entries() {
-        let chain = chain_text(rt.alloc(), pool.store(), entry)?;
-        print!(rt; "entry {entry}\n{chain}")?;
+        println!(rt; "entry {entry}")?;
+        show_chain(rt, pool.store(), entry)?;
     }
     Ok(())
 }
@@ -67,4 +66,14 @@ fn tell(rt: &HostRuntime, moved: Result<Outcome, Fault>) -> io::Result<()> {
         Ok(outcome) => println!(rt; "{outcome}"),
         Err(fault) => println!(rt; "{fault}"),
     }
+}
+
+// The versions of a chain, a line for each. They are printed one by one, since a text of them all would want memory.
+fn show_chain<S: ReadingStore>(rt: &HostRuntime, store: &S, entry: usize) -> io::Result<()> {
+    for i in 0..store.chain_len(entry) {
+        if let Some(version) = store.version(entry, i) {
+            println!(rt; "  {version}")?;
+        }
+    }
+    Ok(())
 }

@@ -7,9 +7,9 @@ use calls::call::Call;
 use pool::pool::Pool;
 use rules::range::RangeRule;
 use runner::run::run;
+use std::io;
 use store::laying::LayOut;
 use store::reading::ReadingStore;
-use store::text::chain_text;
 use store::version::OPENING;
 use table::TableStore;
 
@@ -52,8 +52,18 @@ fn main(rt: HostRuntime) -> anyhow::Result<()> {
         }
     }
     for entry in 0..pool.store().entries() {
-        let chain = chain_text(rt.alloc(), pool.store(), entry)?;
-        print!(rt; "entry {entry}\n{chain}")?;
+        println!(rt; "entry {entry}")?;
+        show_chain(&rt, pool.store(), entry)?;
+    }
+    Ok(())
+}
+
+// The versions of a chain, a line for each. They are printed one by one, since a text of them all would want memory.
+fn show_chain<S: ReadingStore>(rt: &HostRuntime, store: &S, entry: usize) -> io::Result<()> {
+    for i in 0..store.chain_len(entry) {
+        if let Some(version) = store.version(entry, i) {
+            println!(rt; "  {version}")?;
+        }
     }
     Ok(())
 }
