@@ -44,6 +44,8 @@ fn seats(rt: HostRuntime) -> Result<(), Fail> {
         assert_eq!(rt; seen_pool(&pool) == before, !opens, "{seats}");
         let staged = if opens { None } else { Some(STAGED) };
         assert_eq!(rt; pool.store().staged_at(1), staged, "{seats}");
+        // once it is open no other opening is accepted, and after a refused one it can still be opened
+        assert_eq!(rt; pool.open(1).is_ok(), !opens, "{seats}");
     }
     Ok(())
 }
