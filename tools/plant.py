@@ -1,7 +1,7 @@
 #!/usr/bin/env python3
 """Plants the bugs of a list one at a time in a copy of the repository, and says what becomes of each.
 
-    tools/plant.py LIST                                                 only tells which bugs no longer fit the code
+    tools/plant.py LIST                                                 only tells which bugs no longer fit the code (.ci/run asks this)
     tools/plant.py LIST COPY OUTCOMES [CRATE..]
     tools/plant.py tools/planted.txt /tmp/copy /tmp/outcomes            all bugs of the list
     tools/plant.py tools/planted_edits.txt /tmp/copy /tmp/edits pool    must-fail edits that the gate tries no more, those of pool
@@ -162,10 +162,50 @@ def outcome(copy, deps, bug, logs):
         open(path, "w", encoding="utf-8").write(before)
 
 
+NAME = re.compile(r"\b[A-Z]\w*")
+PAIR = re.compile(r"\b([A-Z]\w*)::(\w+)")
+DECLARED = re.compile(r"^(?:pub(?:\([^)]*\))? )?(?:enum|struct|trait) (\w+)", re.M)
+
+
+def sources():
+    texts = []
+    for folder, _, files in os.walk(os.path.join(TOP, "crates")):
+        if "src" in folder.split(os.sep):
+            for name in files:
+                if name.endswith(".rt"):
+                    texts.append(open(os.path.join(folder, name), encoding="utf-8").read())
+    return texts
+
+
+def members(texts):
+    """For each type of the code, all that stands in files which declare it or have an impl of it."""
+    found = {name: "" for text in texts for name in DECLARED.findall(text)}
+    for name in found:
+        here = re.compile(r"(?:enum|struct|trait|impl\b[^{\n]*) %s\b" % name)
+        found[name] = "".join(text for text in texts if here.search(text))
+    return found
+
+
+def gone(new, names, types):
+    """What the new text names and the code does not have: a type, a case, a constant, or a function behind a type's name."""
+    new = re.sub(r'"[^"]*"', "", new)
+    missing = set(NAME.findall(new)) - names
+    for kind, name in PAIR.findall(new):
+        if kind in types and not re.search(r"\b(?:fn|const) %s\b|^    %s\b|\b%s::%s\b" % (name, name, kind, name), types[kind], re.M):
+            missing.add(kind + "::" + name)
+    return sorted(missing)
+
+
 def fits(listed):
     misfits = 0
+    texts = sources()
+    names = {name for text in texts for name in NAME.findall(text)}
+    types = members(texts)
     for bug in blocks(listed):
         misfit = planted(os.path.join(TOP, "crates", bug["crate"], bug["file"]), bug)[2]
+        missing = [name for _, new in bug["pairs"] for name in gone(new, names, types)]
+        if not misfit and missing:
+            misfit = "names what is nowhere in the code: %s" % ", ".join(missing)
         if misfit:
             misfits += 1
             print("%s: %s: %s" % (bug["crate"], bug["name"], misfit))
