@@ -24,6 +24,19 @@ pub trait AbovePool: Reason + From<Fault> {}
 
 impl Reason for Fault {}
 
+impl<F> Failure<F> {
+    /// The same failure, with its fault told as another. Where there is no memory nothing is told, and the closure is not called.
+    pub fn map<E, M: FnOnce(F) -> E>(self, tell: M) -> Failure<E>
+        requires { (fault : F) → self ≡ Refused fault → M.pre tell fault }
+        ensures { IsToldAs (M.post tell) self result }
+    {
+        match self {
+            Failure::Refused(fault) => Failure::Refused(tell(fault)),
+            Failure::NoMemory => Failure::NoMemory,
+        }
+    }
+}
+
 impl<F: fmt::Display> fmt::Display for Failure<F> {
     ghost output = { failure_text F.output };
 
